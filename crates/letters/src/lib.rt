@@ -1,0 +1,2 @@
+// The letters of the script program.
+pub mod script;

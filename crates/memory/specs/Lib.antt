@@ -1,0 +1,2 @@
+pub mod Scratchpads
+pub mod Memories

@@ -1,0 +1,2 @@
+// Registration numbers of 1-Wire chips.
+pub mod registration;

@@ -1,0 +1,2 @@
+// The practice plug.
+pub mod practice;

@@ -1,0 +1,3 @@
+// The registers of the scratchpad protocol.
+pub mod offset;
+pub mod registers;

@@ -1,0 +1,3 @@
+// The scratchpad protocol, for any kind of tag.
+pub mod pad;
+pub mod phase;

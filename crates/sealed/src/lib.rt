@@ -1,0 +1,2 @@
+// The sealed tag of a gearbox.
+pub mod tag;

@@ -1,0 +1,2 @@
+pub mod Bind
+pub mod Steps

@@ -1,0 +1,2 @@
+// Bytes over a rig.
+pub mod bytes;
