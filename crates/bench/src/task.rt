@@ -125,7 +125,7 @@ fn begin<L: Line>(rig: &mut Rig<L>) -> Result<(), AnyError> {
 }
 
 // A reset, 55h with the number, and the bytes of a command.
-fn select<L: Line>(rig: &mut Rig<L>, number: Number, command: &[u8]) -> Result<(), AnyError> {
+pub fn select<L: Line>(rig: &mut Rig<L>, number: Number, command: &[u8]) -> Result<(), AnyError> {
     begin(rig)?;
     if send_byte(rig, 0x55).is_err()
         || send_bytes(rig, &number.bytes()).is_err()

@@ -13,7 +13,7 @@ use Rattle.chip.specs.Chips.{ChipOver, Live, off, on, Phase, idle, command, se
 use Rattle.chip.specs.Steps.{ChipState, madeChip, bytesOf, hasPower, isBusy, pullOf, takeBit, resetChip, dwellChip, cutChip, powerChip}
 
 -- a fact of both ways of a test holds of the way that is taken
-pick : {A : Type 0} (b : Bool) (P : A → Type 0) {x y : A} → P x → P y → P (elim b [ true ↦ x | false ↦ y ])
+pub pick : {A : Type 0} (b : Bool) (P : A → Type 0) {x y : A} → P x → P y → P (elim b [ true ↦ x | false ↦ y ])
 pick true P p q = p
 pick false P p q = q
 

@@ -1,1 +1,3 @@
 pub mod Keeps
+pub mod Sound
+pub mod Select

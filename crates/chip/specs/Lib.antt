@@ -1,3 +1,4 @@
 pub mod Chips
 pub mod Steps
+pub mod Histories
 pub mod Meaning

@@ -1,9 +1,10 @@
 -- A chip with a memory of any protocol: its questions and its steps.
-use mathlib.Core.Bool.{Bool}
-use mathlib.Core.List.{List}
+use mathlib.Core.Bool.{Bool, true, false}
+use mathlib.Core.List.{List, [], _∷_}
 use Prim.Native.Nat.{ℕ}
-use Rattle.memory.specs.Memories.{Memory, protocols, bytesIn}
-use Rattle.chip.specs.Chips.{ChipOver, powered, off, taken, busy, pulled, reset, dwelt, cut, poweredUp}
+use lib.Dec.{eqb}
+use Rattle.memory.specs.Memories.{Memory, protocols, beginMemory, bytesIn}
+use Rattle.chip.specs.Chips.{ChipOver, Live, powered, off, on, idle, selected, taken, busy, pulled, reset, dwelt, cut, poweredUp}
 
 abbrev pub ChipState : Type 0
 ChipState = ChipOver Memory
@@ -40,3 +41,17 @@ cutChip mask c = cut protocols mask c
 
 abbrev pub powerChip : ChipState → ChipState
 powerChip c = poweredUp protocols c
+
+-- the bits of a list taken one after another
+abbrev pub takes : List Bool → ChipState → ChipState
+takes [] c = c
+takes (b ∷ bs) c = takes bs (takeBit b c)
+
+-- a chip after a reset and 55h with a number: powered, it is selected if the number is its own, else idle
+abbrev pub openedAs : Live → Bool → ChipState → ChipState
+openedAs off same c = c
+openedAs (on rc p) true c = record { number = c .number; live = on true selected; memory = beginMemory (c .memory) }
+openedAs (on rc p) false c = record { number = c .number; live = on false idle; memory = c .memory }
+
+abbrev pub openedBy : ℕ → ChipState → ChipState
+openedBy x c = openedAs (c .live) (eqb (c .number) x) c

@@ -5,18 +5,14 @@ use mathlib.Core.List.{List, [], _∷_, _++_, map}
 use Prim.Native.Nat.{ℕ, zero, suc}
 use native.Mathlib.Omega.{arith}
 use Rattle.kind.specs.Kinds.{wholeRow}
-use Rattle.chip.specs.Chips.{powered}
 use Rattle.chip.specs.Steps.{ChipState, bytesOf, hasPower, isBusy, pullOf, takeBit, resetChip, dwellChip, cutChip, powerChip}
-use Rattle.chip.proofs.Keeps.{number-taken, number-reset, number-dwell, number-cut, number-power, bytes-taken, bytes-reset, bytes-power, bytes-dwell-idle, bytes-dwell-busy, bytes-cut-idle, bytes-cut-busy, Off, off-powerless, off-pull, off-busy, off-taken, off-reset, off-dwell, off-cut, power-same}
+use Rattle.chip.proofs.Keeps.{pick, number-taken, number-reset, number-dwell, number-cut, number-power, bytes-taken, bytes-reset, bytes-power, bytes-dwell-idle, bytes-dwell-busy, bytes-cut-idle, bytes-cut-busy, off-powerless, off-cut, power-same}
+use Rattle.chip.specs.Histories.{Touch, resetting, taking, dwelling, cutting, powering, touch, touches, Met, MetAll}
 use Rattle.line.specs.Lines.{some, every, presence, pull, busy}
-use Rattle.rig.specs.Rigs.{RigState, FuseState, none, after, Pulse, resets, slots, dwells, act, answer, deaf, pulseBy, pulse, refused}
+use Rattle.rig.proofs.Unpowered.{AllOff, all-off, off-map, off-refused, off-pulse}
+use Rattle.rig.specs.Rigs.{RigState, FuseState, none, after, Pulse, resets, slots, dwells, act, deaf, pulseBy, pulse, refused}
 use Rattle.history.specs.Calls.{Request, reset, slot, dwell, cut, powerUp, fuse, Reply, presenceIs, bitIs, done, refusedWith, stepped, serve, serveAll}
-use Rattle.history.specs.Laws.{numbers, Numbers-stay, Change, same, programmed, Along, Only-programming, silent, NoPowerUp, Silent-unpowered, Power-up-forgets}
-
--- a fact of both ways of a test
-either : {A : Type 0} (b : Bool) (P : A → Type 0) {x y : A} → P x → P y → P (elim b [ true ↦ x | false ↦ y ])
-either true P p q = p
-either false P p q = q
+use Rattle.history.specs.Laws.{numbers, Numbers-stay, Change, same, programmed, Along, Only-programming, silent, NoPowerUp, Silent-unpowered, Power-up-forgets, Met-stays}
 
 -- a relation that a step keeps with each chip, it keeps along a line
 along-map : (R : ChipState → ChipState → Type 0) (f : ChipState → ChipState) → ((c : ChipState) → R c (f c)) → (l : List ChipState) → Along R l (map f l)
@@ -49,7 +45,7 @@ module _ (R : ChipState → ChipState → Type 0) (e : Each R) where
 
   stepped-each : (p : Pulse) (say : Bool → Reply) (r : RigState) → Along R (r .line) (stepped p say r .0 .line)
   stepped-each p say r =
-      either (refused p (r .line)) (λ (s : RigState × Reply). Along R (r .line) (s .0 .line)) (along-self R (e .stays) (r .line)) (pulse-each (r .fuse) p (r .line))
+      pick (refused p (r .line)) (λ (s : RigState × Reply). Along R (r .line) (s .0 .line)) (along-self R (e .stays) (r .line)) (pulse-each (r .fuse) p (r .line))
 
   -- then it holds along the line of every call
   serve-each : (q : Request) (r : RigState) → Along R (r .line) (serve q r .0 .line)
@@ -114,59 +110,6 @@ pub only-programming : Only-programming
 only-programming r q = serve-each Change change-each q r
 
 -- a line without power
-abbrev AllOff : List ChipState → Type 0
-AllOff [] = Unit {0}
-AllOff (c ∷ cs) = Off c × AllOff cs
-
-all-off : (l : List ChipState) → presence l ≡ false → AllOff l
-all-off [] h = tt
-all-off (c ∷ cs) h = go (hasPower c) refl h (all-off cs)
-  where
-    go : (b : Bool) → hasPower c ≡ b → (b || presence cs) ≡ false → (presence cs ≡ false → AllOff cs) → AllOff (c ∷ cs)
-    go true e f rest = let z : _≡_ {A = ℕ} 0 1 = cc in absurd (omega arith)
-    go false e f rest = (off-powerless c e, rest f)
-
-off-map : (f : ChipState → ChipState) → ((c : ChipState) → Off c → f c ≡ c) → (l : List ChipState) → AllOff l → map f l ≡ l
-off-map f h [] o = refl
-off-map f h (c ∷ cs) o = ap₂ (λ x xs. x ∷ xs) (h c (o .0)) (off-map f h cs (o .1))
-
-line-pull : (l : List ChipState) → AllOff l → pull l ≡ true
-line-pull [] o = refl
-line-pull (c ∷ cs) o = ap₂ _&&_ (off-pull c (o .0)) (line-pull cs (o .1))
-
-line-busy : (l : List ChipState) → AllOff l → busy l ≡ false
-line-busy [] o = refl
-line-busy (c ∷ cs) o = ap₂ _||_ (off-busy c (o .0)) (line-busy cs (o .1))
-
-line-presence : (l : List ChipState) → AllOff l → presence l ≡ false
-line-presence [] o = refl
-line-presence (c ∷ cs) o = ap₂ _||_ (ap powered (o .0)) (line-presence cs (o .1))
-
-and-true : (b : Bool) → (b && true) ≡ b
-and-true true = refl
-and-true false = refl
-
--- a pulse on it changes nothing and is answered as one that became a cut
-off-act : (p : Pulse) (l : List ChipState) → AllOff l → act p l ≡ l
-off-act resets l o = off-map resetChip off-reset l o
-off-act (slots b) l o = off-map (takeBit (b && pull l)) (off-taken (b && pull l)) l o
-off-act dwells l o = off-map dwellChip off-dwell l o
-
-off-answer : (p : Pulse) (l : List ChipState) → AllOff l → answer p l ≡ deaf p
-off-answer resets l o = line-presence l o
-off-answer (slots b) l o = ap (λ x. b && x) (line-pull l o) ∙ and-true b
-off-answer dwells l o = refl
-
-off-refused : (p : Pulse) (l : List ChipState) → AllOff l → refused p l ≡ false
-off-refused resets l o = line-busy l o
-off-refused (slots b) l o = line-busy l o
-off-refused dwells l o = refl
-
-off-pulse : (f : FuseState) (p : Pulse) (l : List ChipState) → AllOff l → (pulseBy f p l .0 .line ≡ l) × (pulseBy f p l .1 ≡ deaf p)
-off-pulse none p l o = (off-act p l o, off-answer p l o)
-off-pulse (after zero mask) p l o = (off-map (cutChip mask) (off-cut mask) l o, refl)
-off-pulse (after (suc n) mask) p l o = (off-act p l o, off-answer p l o)
-
 abbrev Answers : Reply → RigState → RigState × Reply → Type 0
 Answers said r s = (s .0 .line ≡ r .line) × (s .1 ≡ said)
 
@@ -197,3 +140,39 @@ silent-unpowered r qs h n = off-all qs r (all-off (r .line) h) n
 
 pub power-up-forgets : Power-up-forgets
 power-up-forgets c d e f n k b = power-same c d (off-powerless c e) (off-powerless d f) n k b
+
+-- what chips have met
+one-more : (ts : List Touch) (t : Touch) (c : ChipState) → touches (ts ++ (t ∷ [])) c ≡ touch t (touches ts c)
+one-more [] t c = refl
+one-more (s ∷ ts) t c = one-more ts t (touch s c)
+
+met-on : (t : Touch) (c : ChipState) → Met c → Met (touch t c)
+met-on t c m = record {
+  made = m .made;
+  fresh = m .fresh;
+  history = m .history ++ (t ∷ []);
+  so = ap (touch t) (m .so) ∙ sym (one-more (m .history) t (m .made));
+}
+
+abbrev MetToo : ChipState → ChipState → Type 0
+MetToo c d = Met c → Met d
+
+met-each : Each MetToo
+met-each = record {
+  stays = λ c m. m;
+  taken = λ b c m. met-on (taking b) c m;
+  reset = λ c m. met-on resetting c m;
+  dwell = λ c m. met-on dwelling c m;
+  cut = λ mask c m. met-on (cutting mask) c m;
+  power = λ c m. met-on powering c m;
+}
+
+along-met : (l m : List ChipState) → Along MetToo l m → MetAll l → MetAll m
+along-met [] [] h a = tt
+along-met [] (d ∷ ds) h a = absurd h
+along-met (c ∷ cs) [] h a = absurd h
+along-met (c ∷ cs) (d ∷ ds) h a = (h .0 (a .0), along-met cs ds (h .1) (a .1))
+
+pub met-stays : Met-stays
+met-stays r [] m = m
+met-stays r (q ∷ qs) m = met-stays (serve q r .0) qs (along-met (r .line) (serve q r .0 .line) (serve-each MetToo met-each q r) m)

@@ -5,6 +5,7 @@ use mathlib.Core.List.{List, [], _∷_, map}
 use Prim.Native.Nat.{ℕ}
 use Rattle.memory.specs.Memories.{bytesIn, kindIn, burnMemory}
 use Rattle.chip.specs.Steps.{ChipState, bytesOf, hasPower, isBusy, powerChip}
+use Rattle.chip.specs.Histories.{MetAll}
 use Rattle.line.specs.Lines.{presence}
 use Rattle.rig.specs.Rigs.{RigState}
 use Rattle.history.specs.Calls.{Request, reset, slot, dwell, cut, powerUp, fuse, Reply, presenceIs, bitIs, done, serve, serveAll}
@@ -62,3 +63,7 @@ abbrev pub Power-up-forgets : Type 0
 Power-up-forgets =
     (c d : ChipState) → hasPower c ≡ false → hasPower d ≡ false
     → c .number ≡ d .number → kindIn (c .memory) ≡ kindIn (d .memory) → bytesOf c ≡ bytesOf d → powerChip c ≡ powerChip d
+
+-- a line whose chips met nothing but a line's calls since they were made stays such a line
+abbrev pub Met-stays : Type 0
+Met-stays = (r : RigState) (qs : List Request) → MetAll (r .line) → MetAll (serveAll qs r .0 .line)

@@ -4,7 +4,7 @@ ghost use Prim.Native.Nat.{min};
 ghost use lib.ListN.{length, take, drop};
 ghost use Rattle.rig.specs.Meaning.{rigOf};
 ghost use Rattle.history.specs.Calls.{serve, serveAll};
-ghost use Rattle.history.specs.Laws.{numbers, Numbers-stay, Only-programming, Silent-unpowered, Power-up-forgets};
+ghost use Rattle.history.specs.Laws.{numbers, Numbers-stay, Only-programming, Silent-unpowered, Power-up-forgets, Met-stays};
 ghost use Rattle.history.specs.Meaning.{requestOf, replyOf};
 use crate::calls::Answer;
 use crate::calls::Call;
@@ -53,6 +53,7 @@ pub fn play<L: Line>(rig: &mut Rig<L>, calls: &[Call], answers: &mut [Answer]) -
     ensures programming { λ _. ⌜ Only-programming ⌝ }
     ensures silent { λ _. ⌜ Silent-unpowered ⌝ }
     ensures forgets { λ _. ⌜ Power-up-forgets ⌝ }
+    ensures met { λ _. ⌜ Met-stays ⌝ }
 {
     let count = calls.len().min(answers.len());
     for i in 0..count {

@@ -1,9 +1,11 @@
 -- The memory behind a chip's number, of any protocol.
+use mathlib.Core.Path.{_≡_}
 use mathlib.Core.Bool.{Bool}
 use mathlib.Core.List.{List}
 use Prim.Native.Nat.{ℕ}
-use Rattle.kind.specs.Kinds.{Rules}
-use Rattle.memory.specs.Scratchpads.{Padded, takePad, beginPad, wakePad, dwellPad, burnPad, pullDoing, isProgramming}
+use lib.ListN.{length}
+use Rattle.kind.specs.Kinds.{Rules, Lawful, Bytes}
+use Rattle.memory.specs.Scratchpads.{Padded, takePad, beginPad, wakePad, dwellPad, burnPad, pullDoing, isProgramming, on, fresh, idle}
 
 -- what a protocol settles
 pub record Protocol (S : Type 0) : Type 0 where
@@ -57,3 +59,15 @@ bytesIn (padded p) = p .bytes
 -- the figures and rules of its kind
 abbrev pub kindIn : Memory → Rules
 kindIn (padded p) = p .rules
+
+-- a memory just made of a lawful kind from an image
+pub record FreshPad (p : Padded) : Type 0 where
+  pub lawful : Lawful (p .rules)
+  pub image : List ℕ
+  pub length-is : length image ≡ p .rules .image
+  pub bytes : Bytes image
+  pub so : p .bytes ≡ p .rules .made image
+  pub work : p .work ≡ on fresh idle
+
+abbrev pub FreshMemory : Memory → Type 0
+FreshMemory (padded p) = FreshPad p

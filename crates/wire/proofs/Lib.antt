@@ -1,2 +1,11 @@
 pub mod Bind
 pub mod Steps
+pub mod Follows
+pub mod Leading
+pub mod Alone
+pub mod Power
+pub mod Calm
+pub mod One
+pub mod Cuts
+pub mod Counts
+pub mod Selected

@@ -44,3 +44,21 @@ module _ {A : Type 0} where
   abbrev pub readBytes : ℕ → (List ℕ → Job A) → Job A
   readBytes zero k = k []
   readBytes (suc n) k = readBits 8 (λ bs. readBytes n (λ xs. k (value bs ∷ xs)))
+
+-- what a job says in the end: its answer, or a refusal's number with the exchange (or pass) that met it
+pub data Said (A : Type 0) : Type 0 where
+  good : A → Said A
+  bad : ℕ → ℕ → Said A
+
+-- what its caller is told, with the steps made; 0 and 0 before any step
+pub data Report (A : Type 0) : Type 0 where
+  answered : A → ℕ → Report A  -- steps
+  refusedAs : ℕ → ℕ → ℕ → Report A  -- number, exchange, steps
+
+abbrev pub reportOf : {A : Type 0} → Got (Said A) → ℕ → Report A
+reportOf (done (good a)) n = answered a n
+reportOf (done (bad k e)) n = refusedAs k e n
+reportOf lineBusy n = refusedAs 3 0 0
+
+abbrev pub reported : {A : Type 0} → Ran (Said A) → RigState × Report A
+reported w = (w .rig, reportOf (w .got) (w .steps))

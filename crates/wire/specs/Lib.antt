@@ -1,2 +1,5 @@
 pub mod Jobs
 pub mod Wires
+pub mod Exchanges
+pub mod Laws
+pub mod Selection

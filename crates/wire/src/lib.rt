@@ -1,2 +1,4 @@
-// Bytes over a rig.
+// Bytes and exchanges over a rig.
 pub mod bytes;
+pub mod fault;
+pub mod opening;

@@ -11,7 +11,7 @@ use Rattle.history.specs.Calls.{Reply, serve}
 use Rattle.history.specs.Laws.{numbers}
 use Rattle.history.specs.Meaning.{requestOf, replyOf}
 use Rattle.history.proofs.Runs.{turn, drop-on, Played}
-use Rattle.history.proofs.Stays.{numbers-stay, only-programming, silent-unpowered, power-up-forgets}
+use Rattle.history.proofs.Stays.{numbers-stay, only-programming, silent-unpowered, power-up-forgets, met-stays}
 use Rattle.history.proofs.playing.play.Needs as need
 
 pub loop-i-again : need.loop-i-again
@@ -42,4 +42,5 @@ returns g c =
       programming = only-programming;
       silent = silent-unpowered;
       forgets = power-up-forgets;
+      met = met-stays;
     }

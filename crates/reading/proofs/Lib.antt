@@ -1,0 +1,4 @@
+pub mod Chain
+pub mod Quiet
+pub mod Truth
+pub mod Steps

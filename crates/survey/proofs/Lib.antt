@@ -1,0 +1,12 @@
+pub mod Words
+pub mod Walking
+pub mod Passing
+pub mod Called
+pub mod Enumerate
+pub mod Sequences
+pub mod Seekers
+pub mod Starts
+pub mod Complete
+pub mod Fronts
+pub mod Surveyed
+pub mod Counted
