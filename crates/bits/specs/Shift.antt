@@ -1,6 +1,6 @@
 -- What the shift registers hold.
-use Rattle.std.specs.Prelude.{◌≡◌, ℕ, Bool, true, false, List, [], ◌∷◌, ◌++◌, Some, None, Option}
-use Rattle.bits.specs.Bits.{bits_of, value, full, front_bit, rest_bits, spent}
+use Rattle.std.specs.Prelude.{◌≡◌, Bool, true, false, List, [], ◌∷◌, ◌++◌, Some, None, Option}
+use Rattle.bits.specs.Bits.{bits_of, value, full, rest_bits, spent}
 use Rattle.bits.specs.declared.shift.Incoming.{Incoming}
 use Rattle.bits.specs.declared.shift.Outgoing.{Outgoing}
 use Rattle.bits.specs.declared.shift.Pushed.{Pushed}

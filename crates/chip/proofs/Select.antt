@@ -1,12 +1,12 @@
 -- Reset and 55h with a number: which chips are selected, and that all of them hear every bit.
-use Rattle.std.proofs.Common.{◌≡◌, ℕ, zero, suc, ◌^◌, ◌<◌, Bool, true, false, not, ◌&&◌, eqb, ◌≢◌, List, [], ◌∷◌, ◌++◌, length, sym, refl, ap, ◌∙◌, subst, ap₂, arith, eq-eqb}
+use Rattle.std.proofs.Common.{◌≡◌, ℕ, ◌^◌, ◌<◌, Bool, true, false, eqb, ◌≢◌, List, [], ◌∷◌, ◌++◌, length, sym, refl, ap, ◌∙◌, subst, arith, eq-eqb}
 use Rattle.std.proofs.lemmas.Bool.{eqb-true, true≢false}
-use Rattle.bits.specs.Bits.{bits_of, value, same, front_bit, rest_bits, spent}
-use Rattle.bits.proofs.Queues.{value_bits, length_bits}
+use Rattle.bits.specs.Bits.{bits_of, value, same}
+use Rattle.bits.proofs.Queues.{value_bits}
 use Rattle.memory.specs.Memories.{Memory, protocols, begin_memory}
 use Rattle.chip.proofs.Keeps.{number-taken}
-use Rattle.chip.specs.Chips.{Live, off, on, Phase, idle, command, sending, matching, seeking, selected, agreed, select, reset_live, is_selected, powered}
-use Rattle.chip.specs.Steps.{ChipState, has_power, is_busy, pull_of, take_bit, reset_chip, takes, opened_as, opened_by}
+use Rattle.chip.specs.Chips.{Live, off, on, idle, command, matching, selected, agreed, reset_live}
+use Rattle.chip.specs.Steps.{ChipState, is_busy, pull_of, take_bit, reset_chip, takes, opened_as, opened_by}
 
 -- pulls nothing and is not programming before each of these bits
 abbrev pub Hears : List Bool → ChipState → Type 0

@@ -1,8 +1,8 @@
 -- What a chip of the code means.
-use Rattle.std.specs.Prelude.{Bool, cond}
+use Rattle.std.specs.Prelude.{cond}
 use Rattle.bits.specs.Shift.{arrived, queue}
 use Rattle.memory.specs.Memories.{Memory}
-use Rattle.chip.specs.Chips.{Live, off, on, Phase, idle, command, sending, matching, seeking, itself, opposite, choice, selected}
+use Rattle.chip.specs.Chips.{off, on, Phase, idle, command, sending, matching, seeking, itself, opposite, choice, selected}
 use Rattle.chip.specs.Steps.{ChipState}
 use Rattle.chip.specs.declared.phase.RomPhase.{RomPhase}
 use Rattle.chip.specs.declared.phase.RomPhase.TheVariants.{Idle, Command, SendNumber, Matching, SeekItself, SeekOpposite, SeekChoice, Selected}

@@ -21,7 +21,7 @@ pub struct Chip<P> {
 impl<P: Protocol> Chip<P> {
     // A chip without power.
     pub fn new(number: Number, behind: P) -> Chip<P>
-        ensures { model memory result ≡ made_chip number.word (memory behind) }
+        ensures { model P.memory result ≡ made_chip number.word (P.memory behind) }
     {
         Chip {
             number,
@@ -33,21 +33,21 @@ impl<P: Protocol> Chip<P> {
     }
 
     pub fn has_power(&self) -> bool
-        ensures { result ≡ has_power (model memory self.now) }
+        ensures { result ≡ has_power (model P.memory self.now) }
     {
         self.power
     }
 
     // It has power and is programming.
     pub fn is_busy(&self) -> bool
-        ensures { result ≡ is_busy (model memory self.now) }
+        ensures { result ≡ is_busy (model P.memory self.now) }
     {
         matches!(self.phase, RomPhase::Selected) && self.power && self.memory.programming()
     }
 
     // The bit that it pulls, true where it pulls nothing.
     pub fn pull(&self) -> bool
-        ensures { result ≡ pull_of (model memory self.now) }
+        ensures { result ≡ pull_of (model P.memory self.now) }
     {
         if !self.power {
             return true;
@@ -61,7 +61,7 @@ impl<P: Protocol> Chip<P> {
     }
 
     pub fn power_up(&mut self)
-        ensures { model memory self.new ≡ power_chip (model memory self.old) }
+        ensures { model P.memory self.new ≡ power_chip (model P.memory self.old) }
     {
         if !self.power {
             self.power = true;
@@ -72,7 +72,7 @@ impl<P: Protocol> Chip<P> {
     }
 
     pub fn reset(&mut self)
-        ensures { model memory self.new ≡ reset_chip (model memory self.old) }
+        ensures { model P.memory self.new ≡ reset_chip (model P.memory self.old) }
     {
         if self.power && !self.is_busy() {
             self.phase = RomPhase::Command {
@@ -82,7 +82,7 @@ impl<P: Protocol> Chip<P> {
     }
 
     pub fn dwell(&mut self)
-        ensures { model memory self.new ≡ dwell_chip (model memory self.old) }
+        ensures { model P.memory self.new ≡ dwell_chip (model P.memory self.old) }
     {
         if self.is_busy() {
             self.memory.dwell();
@@ -90,7 +90,7 @@ impl<P: Protocol> Chip<P> {
     }
 
     pub fn cut(&mut self, mask: u64)
-        ensures { model memory self.new ≡ cut_chip mask (model memory self.old) }
+        ensures { model P.memory self.new ≡ cut_chip mask (model P.memory self.old) }
     {
         if self.is_busy() {
             self.memory.burn(mask);
@@ -100,7 +100,7 @@ impl<P: Protocol> Chip<P> {
 
     // One taken bit.
     pub fn take(&mut self, bit: bool)
-        ensures { model memory self.new ≡ take_bit bit (model memory self.old) }
+        ensures { model P.memory self.new ≡ take_bit bit (model P.memory self.old) }
     {
         if !self.power {
             return;
@@ -144,7 +144,7 @@ impl<P: Protocol> Chip<P> {
     // The memory phase begins.
     fn select(&mut self)
         requires { self.old.power ≡ true }
-        ensures { model memory self.new ≡ select protocols (model memory self.old) self.old.rc }
+        ensures { model P.memory self.new ≡ select protocols (model P.memory self.old) self.old.rc }
     {
         self.phase = RomPhase::Selected;
         self.memory.begin();
@@ -153,7 +153,7 @@ impl<P: Protocol> Chip<P> {
     // A command of the ROM phase.
     fn obey(&mut self, command: u8)
         requires { self.old.power ≡ true }
-        ensures { model memory self.new ≡ obey protocols (command_of command) self.old.rc (model memory self.old) }
+        ensures { model P.memory self.new ≡ obey protocols (command_of command) self.old.rc (model P.memory self.old) }
     {
         match command {
             0x33 => {

@@ -1,6 +1,6 @@
 -- A tag is its number and its bytes.
 use Rattle.std.proofs.Common.{◌≡◌, ℕ, suc, ◌*◌, ◌^◌, ◌<◌, Bool, true, false, ◌&&◌, ◌||◌, List, [], ◌∷◌, ◌++◌, map, length, replicate, sym, refl, ap, ◌∙◌, subst, ap₂, arith}
-use mathlib.Core.Bool.{and_true}
+use mathlib.Core.Bool.{and-true}
 use lib.ListN.{length-map}
 use Rattle.bits.specs.Bits.{bits_of, value, bits_all}
 use Rattle.bits.proofs.Queues.{value_bits, length_all}
@@ -37,14 +37,14 @@ said_slot : (b : Bool) (qs : List Request) (c : ChipState) → is_busy c ≡ fal
 said_slot b qs c e =
     ap (λ t. let s = elim t as (λ _. RigState × Reply) [ true ↦ (alone c, refused_with 3) | false ↦ (alone (take_bit (b && pull (c ∷ [])) c), bit_is (b && pull (c ∷ []))) ] in s.1 ∷ (serve_all qs s.0).1)
     (ap (λ y. y || false) e)
-    ∙ ap (λ y. bit_is (b && y) ∷ said qs (take_bit (b && y) c)) (and_true (pull_of c))
+    ∙ ap (λ y. bit_is (b && y) ∷ said qs (take_bit (b && y) c)) (and-true (pull_of c))
 
 -- bits sent to a chip that hears them
 said_send : (bs : List Bool) (qs : List Request) (c : ChipState) → Hears bs c → said (bit_calls bs ++ qs) c ≡ map bit_is bs ++ said qs (takes bs c)
 said_send [] qs c h = refl
 said_send (b ∷ bs) qs c h =
     said_slot b (bit_calls bs ++ qs) c h.1
-    ∙ ap (λ y. bit_is y ∷ said (bit_calls bs ++ qs) (take_bit y c)) (ap (λ y. b && y) h.0 ∙ and_true b)
+    ∙ ap (λ y. bit_is y ∷ said (bit_calls bs ++ qs) (take_bit y c)) (ap (λ y. b && y) h.0 ∙ and-true b)
     ∙ ap (λ t. bit_is b ∷ t) (said_send bs qs (take_bit b c) h.2)
 
 -- bits of a number read

@@ -19,7 +19,7 @@ use survey::listing::{MOST_PLACES, survey};
 
 // A survey with a list of its own: it fills at most 64 places, so no more are lent.
 fn make_survey<L: Line>(rig: &mut Rig<L>, places: usize) -> Answer
-    ensures { (rig_of chips rig.new, reply_of result) ≡ serve (request_of (Survey places)) (rig_of chips rig.old) }
+    ensures { (rig_of L.chips rig.new, reply_of result) ≡ serve (request_of (Survey places)) (rig_of L.chips rig.old) }
 {
     let mut list = [0; MOST_PLACES];
     let lent = places.min(MOST_PLACES);
@@ -32,7 +32,7 @@ fn make_survey<L: Line>(rig: &mut Rig<L>, places: usize) -> Answer
 
 // A reading into a row of its own.
 fn make_reading<L: Line>(rig: &mut Rig<L>, number: Number, row: u16) -> Answer
-    ensures { (rig_of chips rig.new, reply_of result) ≡ serve (request_of (Read number row)) (rig_of chips rig.old) }
+    ensures { (rig_of L.chips rig.new, reply_of result) ≡ serve (request_of (Read number row)) (rig_of L.chips rig.old) }
 {
     let mut found = [0; ROW];
     match read_row(rig, number, row, &mut found) {
@@ -43,7 +43,7 @@ fn make_reading<L: Line>(rig: &mut Rig<L>, number: Number, row: u16) -> Answer
 
 // One call, and its answer.
 pub fn make_call<L: Line>(rig: &mut Rig<L>, call: Call) -> Answer
-    ensures { (rig_of chips rig.new, reply_of result) ≡ serve (request_of call) (rig_of chips rig.old) }
+    ensures { (rig_of L.chips rig.new, reply_of result) ≡ serve (request_of call) (rig_of L.chips rig.old) }
 {
     match call {
         Call::Reset => match rig.reset() {
@@ -79,16 +79,16 @@ pub fn make_call<L: Line>(rig: &mut Rig<L>, call: Call) -> Answer
 // Plays a list of calls, as many as there are places for answers, and says how many.
 pub fn play<L: Line>(rig: &mut Rig<L>, calls: &[Call], answers: &mut [Answer]) -> usize
     ensures count { result ≡ min (length calls.now) (length answers.old) }
-    ensures told { (rig_of chips rig.new, map reply_of (take result answers.new)) ≡ serve_all (map request_of (take result calls.now)) (rig_of chips rig.old) }
+    ensures told { (rig_of L.chips rig.new, map reply_of (take result answers.new)) ≡ serve_all (map request_of (take result calls.now)) (rig_of L.chips rig.old) }
     ensures later { drop result answers.new ≡ drop result answers.old }
-    ensures here { numbers (rig_of chips rig.new) ≡ numbers (rig_of chips rig.old) }
+    ensures here { numbers (rig_of L.chips rig.new) ≡ numbers (rig_of L.chips rig.old) }
     ensures numbers { NumbersStay }
     ensures programming { OnlyProgramming }
     ensures each { StepsOnlyProgram }
     ensures silent { SilentUnpowered }
     ensures forgets { PowerUpForgets }
     ensures met { MetStays }
-    ensures protection { MetAll (rig_of chips rig.old).line → Always (rig_of chips rig.old ∷ moments (map request_of (take result calls.now)) (rig_of chips rig.old)) }
+    ensures protection { MetAll (rig_of L.chips rig.old).line → Always (rig_of L.chips rig.old ∷ moments (map request_of (take result calls.now)) (rig_of L.chips rig.old)) }
     ensures promises { Promises }
     ensures edges { EdgeRuns }
 {

@@ -41,7 +41,7 @@ pub fn print_of(answer: Answer) -> u8
 
 // Plays one letter, and gives what is printed for it.
 pub fn play_letter<L: Line>(rig: &mut Rig<L>, letter: char) -> u8
-    ensures { (rig_of chips rig.new, result) ≡ script letter (rig_of chips rig.old) }
+    ensures { (rig_of L.chips rig.new, result) ≡ script letter (rig_of L.chips rig.old) }
 {
     match event(letter) {
         Some(call) => print_of(make_call(rig, call)),
@@ -52,7 +52,7 @@ pub fn play_letter<L: Line>(rig: &mut Rig<L>, letter: char) -> u8
 // Plays letters, as many as there are places for what is printed, and says how many.
 pub fn play_letters<L: Line>(rig: &mut Rig<L>, input: &[u8], output: &mut [u8]) -> usize
     ensures count { result ≡ min (length input.now) (length output.old) }
-    ensures told { (rig_of chips rig.new, take result output.new) ≡ script_all (take result input.now) (rig_of chips rig.old) }
+    ensures told { (rig_of L.chips rig.new, take result output.new) ≡ script_all (take result input.now) (rig_of L.chips rig.old) }
     ensures later { drop result output.new ≡ drop result output.old }
 {
     let count = input.len().min(output.len());

@@ -16,7 +16,7 @@ pub struct OneTag<P> {
 impl<P: Protocol> OneTag<P> {
     // A tag without power.
     pub fn new(number: Number, behind: P) -> OneTag<P>
-        ensures { model memory result.chip ≡ made_chip number.word (memory behind) }
+        ensures { model P.memory result.chip ≡ made_chip number.word (P.memory behind) }
     {
         OneTag {
             chip: Chip::new(number, behind),

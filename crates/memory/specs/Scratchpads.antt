@@ -1,5 +1,5 @@
 -- The scratchpad protocol: what a chip of any kind does in the memory phase.
-use Rattle.std.specs.Prelude.{◌≡◌, ℕ, suc, ◌+◌, ◌-◌, ◌*◌, ◌/◌, ◌%◌, Bool, true, false, cond, not, ◌&&◌, List, [], ◌∷◌, ◌++◌, drop, replicate, ◌==◌, nat_le, slice_set}
+use Rattle.std.specs.Prelude.{ℕ, ◌+◌, ◌-◌, ◌*◌, ◌%◌, Bool, true, false, cond, not, ◌&&◌, List, [], ◌∷◌, ◌++◌, drop, replicate, ◌==◌, nat_le, slice_set}
 use Rattle.bits.specs.Bits.{value, bits_all, full, front_bit, rest_bits}
 use Rattle.sums.specs.Sums.{crc16, inverted}
 use Rattle.kind.specs.Kinds.{Rules, row_length, whole_row, program}

@@ -21,7 +21,7 @@ fn conclude<L: Line>(
     row: u16,
     new: &[u8; ROW],
 ) -> Result<(bool, u32), OrderFault>
-    ensures { Concluded number.word row new.now (counting chips rig.old) (counting chips rig.new) result }
+    ensures { Concluded number.word row new.now (counting L.chips rig.old) (counting L.chips rig.new) result }
 {
     let programmed = copy(rig, number, row)?;
     let found = find(rig, number, row, 4)?;
@@ -50,7 +50,7 @@ fn order_steps<L: Line>(
     row: u16,
     new: &[u8; ROW],
 ) -> Result<(bool, u32), OrderFault>
-    ensures { Ordered number.word row new.now (counting chips rig.old) (counting chips rig.new) result }
+    ensures { Ordered number.word row new.now (counting L.chips rig.old) (counting L.chips rig.new) result }
 {
     load(rig, number, row, new)?;
     let loaded = check(rig, number, row)?;
@@ -70,7 +70,7 @@ pub fn order<L: Line>(
     row: u16,
     new: &[u8; ROW],
 ) -> Result<(bool, u32), OrderFault>
-    ensures told { (rig_of chips rig.new, order_verdict result) ≡ order_call number.word row new.now (rig_of chips rig.old) }
+    ensures told { (rig_of L.chips rig.new, order_verdict result) ≡ order_call number.word row new.now (rig_of L.chips rig.old) }
     ensures tells { OrderTells }
     ensures unchanged { BusyUnchanged }
     ensures uncopied { Uncopied }

@@ -1,5 +1,5 @@
 -- The practice plug: 64 bytes, all readable and programmable, with no protection.
-use Rattle.std.specs.Prelude.{ℕ, ltb}
+use Rattle.std.specs.Prelude.{ltb}
 use Rattle.kind.specs.Kinds.{Rules}
 
 abbrev pub plug : Rules

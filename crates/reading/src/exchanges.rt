@@ -13,7 +13,7 @@ use wire::opening::begin;
 
 // AAh and three bytes; three times FFh is garbled.
 pub fn ask<L: Line>(rig: &mut Rig<L>, number: Number) -> Result<(), ExchangeFault>
-    ensures { Told (asks number.word) (counting chips rig.old) (counting chips rig.new) result }
+    ensures { Told (asks number.word) (counting L.chips rig.old) (counting L.chips rig.new) result }
 {
     begin(rig, number, 1)?;
     send_bytes(rig, &[0xAA])?;
@@ -35,7 +35,7 @@ pub fn find<L: Line>(
     row: u16,
     exchange: u8,
 ) -> Result<[u8; ROW], ExchangeFault>
-    ensures { Told (finds exchange number.word row) (counting chips rig.old) (counting chips rig.new) result }
+    ensures { Told (finds exchange number.word row) (counting L.chips rig.old) (counting L.chips rig.new) result }
 {
     begin(rig, number, exchange)?;
     send_bytes(rig, &[0xF0, (row % 256) as u8, (row / 256) as u8])?;
@@ -45,7 +45,7 @@ pub fn find<L: Line>(
 
 // The closing reset.
 pub fn close<L: Line>(rig: &mut Rig<L>, exchange: u8) -> Result<(), ExchangeFault>
-    ensures { Told (closes exchange) (counting chips rig.old) (counting chips rig.new) result }
+    ensures { Told (closes exchange) (counting L.chips rig.old) (counting L.chips rig.new) result }
 {
     if !rig.reset()? {
         return Err(ExchangeFault::Failed {

@@ -18,7 +18,7 @@ fn read_steps<L: Line>(
     number: Number,
     row: u16,
 ) -> Result<([u8; ROW], u32), ReadFault>
-    ensures { Read number.word row (counting chips rig.old) (counting chips rig.new) result }
+    ensures { Read number.word row (counting L.chips rig.old) (counting L.chips rig.new) result }
 {
     ask(rig, number)?;
     let found = find(rig, number, row, 2)?;
@@ -33,9 +33,9 @@ pub fn read_row<L: Line>(
     row: u16,
     into: &mut [u8; ROW],
 ) -> Result<u32, ReadFault>
-    ensures told { (rig_of chips rig.new, read_report result into.new) ≡ read_call number.word row (rig_of chips rig.old) }
+    ensures told { (rig_of L.chips rig.new, read_report result into.new) ≡ read_call number.word row (rig_of L.chips rig.old) }
     ensures kept { is_err result ≡ true → into.new ≡ into.old }
-    ensures bytes { map bytes_of (chips rig.new.line) ≡ map bytes_of (chips rig.old.line) }
+    ensures bytes { map bytes_of (L.chips rig.new.line) ≡ map bytes_of (L.chips rig.old.line) }
     ensures tells { ReadingTells }
     ensures unchanged { BusyUnchanged }
     ensures busy { BusyRefused }

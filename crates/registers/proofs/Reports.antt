@@ -1,5 +1,5 @@
 -- What AAh sends, byte by byte.
-use Rattle.std.proofs.Common.{◌≡◌, ℕ, zero, suc, ◌+◌, ◌-◌, ◌<◌, ◌≤◌, List, [], ◌∷◌, length, get_or, drop, sym, refl, ap, ◌∙◌, arith, drop_of_length-le, drop-cons, drop-drop}
+use Rattle.std.proofs.Common.{◌≡◌, ℕ, zero, suc, ◌+◌, ◌-◌, ◌<◌, ◌≤◌, List, [], ◌∷◌, length, get_or, drop, sym, ap, ◌∙◌, arith, drop_of_length-le, drop-cons, drop-drop}
 
 pub past_three : (a b c : ℕ) (xs : List ℕ) (k : ℕ) → 3 ≤ k → drop k (a ∷ b ∷ c ∷ xs) ≡ drop (k - 3) xs
 past_three a b c xs zero h = absurd (omega arith)

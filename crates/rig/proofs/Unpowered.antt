@@ -1,6 +1,6 @@
 -- A line without power.
 use Rattle.std.proofs.Common.{◌≡◌, ℕ, zero, suc, Bool, true, false, ◌&&◌, ◌||◌, List, [], ◌∷◌, map, refl, ap, ◌∙◌, ap₂, arith}
-use mathlib.Core.Bool.{and_true}
+use mathlib.Core.Bool.{and-true}
 use Rattle.chip.specs.Chips.{powered}
 use Rattle.chip.specs.Steps.{ChipState, has_power, take_bit, reset_chip, dwell_chip, cut_chip}
 use Rattle.chip.proofs.Keeps.{Off, off_powerless, off-pull, off-busy, off-taken, off-reset, off-dwell, off-cut}
@@ -43,7 +43,7 @@ off-act dwells l o = off-map dwell_chip off-dwell l o
 
 pub off-answer : (p : Pulse) (l : List ChipState) → AllOff l → answer p l ≡ deaf p
 off-answer resets l o = line_presence l o
-off-answer (slots b) l o = ap (λ x. b && x) (line_pull l o) ∙ and_true b
+off-answer (slots b) l o = ap (λ x. b && x) (line_pull l o) ∙ and-true b
 off-answer dwells l o = refl
 
 pub off-refused : (p : Pulse) (l : List ChipState) → AllOff l → refused p l ≡ false

@@ -23,7 +23,7 @@ pub struct Rig<L> {
 impl<L: Line> Rig<L> {
     // A rig with no fuse.
     pub fn new(line: L) -> Rig<L>
-        ensures { counting chips result ≡ record { rig = made_rig (chips line); steps = 0 } }
+        ensures { counting L.chips result ≡ record { rig = made_rig (L.chips line); steps = 0 } }
     {
         Rig {
             line,
@@ -33,33 +33,33 @@ impl<L: Line> Rig<L> {
     }
 
     pub fn steps(&self) -> u32
-        ensures { result ≡ (counting chips self.now).steps }
+        ensures { result ≡ (counting L.chips self.now).steps }
     {
         self.steps
     }
 
     // Sets the steps to 0.
     pub fn begin_count(&mut self)
-        ensures { counting chips self.new ≡ record { rig = rig_of chips self.old; steps = 0 } }
+        ensures { counting L.chips self.new ≡ record { rig = rig_of L.chips self.old; steps = 0 } }
     {
         self.steps = 0;
     }
 
     pub fn power_up(&mut self)
-        ensures { counting chips self.new ≡ record { rig = power_rig (rig_of chips self.old); steps = self.old.steps } }
+        ensures { counting L.chips self.new ≡ record { rig = power_rig (rig_of L.chips self.old); steps = self.old.steps } }
     {
         self.line.power_up();
     }
 
     pub fn cut(&mut self, mask: u64)
-        ensures { counting chips self.new ≡ record { rig = cut_rig mask (rig_of chips self.old); steps = self.old.steps } }
+        ensures { counting L.chips self.new ≡ record { rig = cut_rig mask (rig_of L.chips self.old); steps = self.old.steps } }
     {
         self.line.cut(mask);
     }
 
     // Replaces the fuse.
     pub fn set_fuse(&mut self, fuse: Fuse)
-        ensures { counting chips self.new ≡ record { rig = set_fuse fuse.count fuse.mask (rig_of chips self.old); steps = self.old.steps } }
+        ensures { counting L.chips self.new ≡ record { rig = set_fuse fuse.count fuse.mask (rig_of L.chips self.old); steps = self.old.steps } }
     {
         self.fuse = Some(fuse);
     }
@@ -68,7 +68,7 @@ impl<L: Line> Rig<L> {
     fn burn(&mut self) -> bool
         ensures answer { result ≡ blows self.old.fuse }
         ensures fuse { self.new.fuse ≡ lowered self.old.fuse }
-        ensures line { chips self.new.line ≡ cut_by self.old.fuse (chips self.old.line) }
+        ensures line { L.chips self.new.line ≡ cut_by self.old.fuse (L.chips self.old.line) }
         ensures steps { self.new.steps ≡ counted self.old.steps }
     {
         self.steps = self.steps.saturating_add(1);
@@ -91,7 +91,7 @@ impl<L: Line> Rig<L> {
 
     // Presence; refusal 3 while the line is busy.
     pub fn reset(&mut self) -> Result<bool, RigFault>
-        ensures { (counting chips self.new, result) ≡ beat resets (counting chips self.old) }
+        ensures { (counting L.chips self.new, result) ≡ beat resets (counting L.chips self.old) }
     {
         if self.line.busy() {
             return Err(RigFault::LineBusy);
@@ -106,7 +106,7 @@ impl<L: Line> Rig<L> {
 
     // The master's bit AND the pull, which the line takes; refusal 3 while the line is busy.
     pub fn slot(&mut self, bit: bool) -> Result<bool, RigFault>
-        ensures { (counting chips self.new, result) ≡ beat (slots bit) (counting chips self.old) }
+        ensures { (counting L.chips self.new, result) ≡ beat (slots bit) (counting L.chips self.old) }
     {
         if self.line.busy() {
             return Err(RigFault::LineBusy);
@@ -120,7 +120,7 @@ impl<L: Line> Rig<L> {
     }
 
     pub fn dwell(&mut self)
-        ensures { counting chips self.new ≡ record { rig = (pulse dwells (rig_of chips self.old)).0; steps = counted self.old.steps } }
+        ensures { counting L.chips self.new ≡ record { rig = (pulse dwells (rig_of L.chips self.old)).0; steps = counted self.old.steps } }
     {
         if !self.burn() {
             self.line.dwell();

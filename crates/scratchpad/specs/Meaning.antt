@@ -4,7 +4,7 @@ use Rattle.bits.specs.Bits.{bits_all}
 use Rattle.bits.specs.Shift.{arrived, queue}
 use Rattle.sums.specs.Sums.{crc16, inverted}
 use Rattle.kind.specs.Kinds.{Rules}
-use Rattle.memory.specs.Scratchpads.{Padded, Regs, Work, on, Doing, idle, programming, taking, sending, alternating, report, await, Awaited, command, load_low, load_high, load_data, copy_low, copy_high, copy_status, read_low, read_high}
+use Rattle.memory.specs.Scratchpads.{Padded, Regs, on, Doing, idle, programming, taking, sending, alternating, report, await, Awaited, command, load_low, load_high, load_data, copy_low, copy_high, copy_status, read_low, read_high}
 use Rattle.registers.specs.Meaning.{regs_of}
 use Rattle.scratchpad.specs.declared.phase.Await.{Await}
 use Rattle.scratchpad.specs.declared.phase.Await.TheVariants.{Command, LoadLow, LoadHigh, LoadData, CopyLow, CopyHigh, CopyStatus, ReadLow, ReadHigh}

@@ -24,7 +24,7 @@ pub struct PadMemory<K> {
 
 impl<K: Kind> PadMemory<K> {
     pub fn new(kind: K) -> PadMemory<K>
-        ensures { model rules bytes result ≡ record { rules = rules; bytes = bytes kind; work = on fresh idle } }
+        ensures { model K.rules K.bytes result ≡ record { rules = K.rules; bytes = K.bytes kind; work = on fresh idle } }
     {
         PadMemory {
             phase: Phase::Idle,
@@ -35,7 +35,7 @@ impl<K: Kind> PadMemory<K> {
 
     // One taken bit.
     fn bit(&mut self, bit: bool)
-        ensures { model rules bytes self.new ≡ take_pad (model rules bytes self.old) bit }
+        ensures { model K.rules K.bytes self.new ≡ take_pad (model K.rules K.bytes self.old) bit }
     {
         match (self.phase, bit) {
             (Phase::Idle | Phase::Programming | Phase::SendOnes, _) => {}
@@ -61,7 +61,7 @@ impl<K: Kind> PadMemory<K> {
 
     // Sends the report from byte `next` on, then the sum.
     fn report_from(&self, next: u8, sum: u16) -> Phase
-        ensures { doing (regs_of self.now.regs) (bytes self.now.kind) result ≡ sending (bits_all (closing sum (drop next (report (regs_of self.now.regs))))) }
+        ensures { doing (regs_of self.now.regs) (K.bytes self.now.kind) result ≡ sending (bits_all (closing sum (drop next (report (regs_of self.now.regs))))) }
     {
         match self.regs.reported(next) {
             Some(byte) => Phase::SendReport {
@@ -77,7 +77,7 @@ impl<K: Kind> PadMemory<K> {
 
     // Sends the memory from an address on, then ones.
     fn memory_from(&self, address: u16) -> Phase
-        ensures { doing (regs_of self.now.regs) (bytes self.now.kind) result ≡ sending (bits_all (drop address (bytes self.now.kind))) }
+        ensures { doing (regs_of self.now.regs) (K.bytes self.now.kind) result ≡ sending (bits_all (drop address (K.bytes self.now.kind))) }
     {
         if (address as usize) < K::readable() {
             Phase::SendMemory {
@@ -91,7 +91,7 @@ impl<K: Kind> PadMemory<K> {
 
     // A complete byte.
     fn got_byte(&mut self, what: Await, byte: u8)
-        ensures { model rules bytes self.new ≡ working (model rules bytes self.old) (got_byte rules (bytes self.old.kind) (awaited what) byte (regs_of self.old.regs)) }
+        ensures { model K.rules K.bytes self.new ≡ working (model K.rules K.bytes self.old) (got_byte K.rules (K.bytes self.old.kind) (awaited what) byte (regs_of self.old.regs)) }
     {
         match what {
             Await::Command => self.obey(byte),
@@ -125,7 +125,7 @@ impl<K: Kind> PadMemory<K> {
 
     // The three bytes are the target and the status, the scratchpad is whole, and the row may be copied to.
     fn copy_begins(&self, low: u8, high: u8, status: u8) -> bool
-        ensures { result ≡ copies rules (bytes self.now.kind) low high status (regs_of self.now.regs) }
+        ensures { result ≡ copies K.rules (K.bytes self.now.kind) low high status (regs_of self.now.regs) }
     {
         low == self.regs.ta1
             && high == self.regs.ta2
@@ -136,7 +136,7 @@ impl<K: Kind> PadMemory<K> {
 
     // A command of the memory phase.
     fn obey(&mut self, command: u8)
-        ensures { model rules bytes self.new ≡ working (model rules bytes self.old) (obey rules (bytes self.old.kind) (command_of command) (regs_of self.old.regs)) }
+        ensures { model K.rules K.bytes self.new ≡ working (model K.rules K.bytes self.old) (obey K.rules (K.bytes self.old.kind) (command_of command) (regs_of self.old.regs)) }
     {
         match command {
             0x0F => {
@@ -153,7 +153,7 @@ impl<K: Kind> PadMemory<K> {
 
     // The data byte at an offset of the target's row.
     fn data_byte(&mut self, offset: Offset, sum: u16, byte: u8)
-        ensures { model rules bytes self.new ≡ working (model rules bytes self.old) (got_byte rules (bytes self.old.kind) (load_data offset.at sum) byte (regs_of self.old.regs)) }
+        ensures { model K.rules K.bytes self.new ≡ working (model K.rules K.bytes self.old) (got_byte K.rules (K.bytes self.old.kind) (load_data offset.at sum) byte (regs_of self.old.regs)) }
     {
         let at = offset.at();
         let loaded = self.kind.load(self.regs.row() + at as u16, byte);

@@ -1,9 +1,8 @@
 -- The bytes of a sealed tag behind its image.
-use Rattle.std.specs.Prelude.{◌≡◌, ℕ, zero, suc, ◌+◌, ◌<◌, ◌≤◌, Bool, true, false, List, [], ◌∷◌, ◌++◌, length, replicate, bit_and, refl}
-use Rattle.std.proofs.Common.{sym, ap, ◌∙◌, arith, length-append}
+use Rattle.std.specs.Prelude.{◌≡◌, ℕ, zero, suc, ◌<◌, true, false, List, [], ◌∷◌, replicate, bit_and, refl}
+use Rattle.std.proofs.Common.{arith}
 use Rattle.std.specs.Int.Bits.{and_self}
 use Rattle.std.proofs.lemmas.Nat.{and_le_r}
-use Rattle.std.proofs.lemmas.Bool.Decides.{nat_tests}
 use Rattle.kind.specs.Kinds.{at, Bytes}
 use Rattle.sealed.specs.Sealed.{protected, eprom, load, made}
 

@@ -1,7 +1,7 @@
 -- Check sums: a shift register that takes the lowest bit of each byte first and starts at 0.
 -- The polynomial is written without its highest power, the lowest power in the highest bit.
-use Rattle.std.specs.Prelude.{ℕ, ◌-◌, ◌/◌, ◌%◌, Bool, true, false, not, List, [], ◌∷◌, bit_xor}
-use Rattle.bits.specs.Bits.{odd, bits_of, bits_all, differ}
+use Rattle.std.specs.Prelude.{ℕ, ◌-◌, ◌/◌, ◌%◌, Bool, true, false, List, [], ◌∷◌, bit_xor}
+use Rattle.bits.specs.Bits.{odd, bits_all, differ}
 
 -- X^8 + X^5 + X^4 + 1
 abbrev pub poly8 : ℕ

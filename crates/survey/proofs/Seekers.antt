@@ -1,6 +1,6 @@
 -- Passes against a line.
 use Rattle.std.proofs.Common.{◌≡◌, ℕ, zero, suc, ◌-◌, ◌<◌, ◌≤◌, Bool, true, false, not, ◌&&◌, ◌||◌, ◌⊎◌, List, [], ◌∷◌, map, take, sym, refl, ap, ◌∙◌, subst, ap₂, subst₂, inl, inr, arith}
-use mathlib.Core.Bool.{and_true}
+use mathlib.Core.Bool.{and-true}
 use Rattle.std.proofs.lemmas.Bool.{true≢false, cases_lt}
 use Rattle.bits.specs.Bits.{same, bits_of}
 use Rattle.bits.proofs.Choice.{pick}
@@ -174,7 +174,7 @@ module _ {A : Type 0} (lost : Job A) where
       s3 : Leads (third n path k (is_nil (branch false (rests D))) (is_nil (branch true (rests D))) false) (line_at choice D)
           (triples lost n (tail_of path) (λ bs nx. k (taken path (rests D) ∷ bs) (onward (forked path (rests D)) (taken path (rests D)) nx))) (line_at itself (narrow (taken path (rests D)) D))
       s3 = subst (λ l. Leads (third n path k (is_nil (branch false (rests D))) (is_nil (branch true (rests D))) false) (line_at choice D) (triples lost n (tail_of path) (λ bs nx. k (taken path (rests D) ∷ bs) (onward (forked path (rests D)) (taken path (rests D)) nx))) l)
-          (ap (λ y. map (take_bit y) (line_at choice D)) (ap (λ y. taken path (rests D) && y) (pull_third D) ∙ and_true (taken path (rests D))) ∙ take_third (taken path (rests D)) n D u)
+          (ap (λ y. map (take_bit y) (line_at choice D)) (ap (λ y. taken path (rests D) && y) (pull_third D) ∙ and-true (taken path (rests D))) ∙ take_third (taken path (rests D)) n D u)
           (leads_step (slots (taken path (rests D))) (λ _. triples lost n (tail_of path) (λ bs nx. k (taken path (rests D) ∷ bs) (onward (forked path (rests D)) (taken path (rests D)) nx))) (line_at choice D) (busy-at choice n D u))
 
   -- all the triples of a pass
@@ -334,7 +334,7 @@ module _ {A : Type 0} (P : A → Type 0) (lost : Job A) (pl : P (dead_run lost))
                 busy-at choice n D u,
                 cut_third n path k S h,
                 subst (λ l. CutSafe P (triples lost n (tail_of path) (λ bs nx. k (t ∷ bs) (onward (forked path S) t nx))) l)
-                    (sym (ap (λ y. map (take_bit y) (line_at choice D)) (ap (λ y. t && y) (pull_third D) ∙ and_true t) ∙ take_third t n D u))
+                    (sym (ap (λ y. map (take_bit y) (line_at choice D)) (ap (λ y. t && y) (pull_third D) ∙ and-true t) ∙ take_third t n D u))
                     (pass_safe n (tail_of path) (λ bs nx. k (t ∷ bs) (onward (forked path S) t nx)) (narrow t D)
                     (subst (Uniform n) (sym e) (uniform_branch t n S u)) (subst (Valid n (tail_of path)) (sym e) w.0) (subst (Determined n) (sym e) (determined_branch t n S d))
                     (λ nx. subst (λ S'. P (dead_run (k (t ∷ found n (tail_of path) S') (onward (forked path S) t nx)))) (sym e) (h (onward (forked path S) t nx)))

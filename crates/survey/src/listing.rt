@@ -21,7 +21,7 @@ fn list_numbers<L: Line>(
     room: u8,
 ) -> Result<(u8, u32), SurveyFault>
     requires { (room ≤ length places.old) × (room ≤ 64) }
-    ensures { Surveyed room (counting chips rig.old) (counting chips rig.new) places.old places.new result }
+    ensures { Surveyed room (counting L.chips rig.old) (counting L.chips rig.new) places.old places.new result }
 {
     let mut way = 0;
     for i in 0..room {
@@ -40,9 +40,9 @@ fn list_numbers<L: Line>(
 
 // Lists the numbers of the powered chips, at most 64, in the lent places; answers their count and the steps made.
 pub fn survey<L: Line>(rig: &mut Rig<L>, places: &mut [u64]) -> Result<(u8, u32), SurveyFault>
-    ensures told { (rig_of chips rig.new, survey_answer result places.new) ≡ survey_call (length places.old) (rig_of chips rig.old) }
-    ensures later { Later (busy (chips rig.old.line)) result places.old places.new }
-    ensures bytes { map bytes_of (chips rig.new.line) ≡ map bytes_of (chips rig.old.line) }
+    ensures told { (rig_of L.chips rig.new, survey_answer result places.new) ≡ survey_call (length places.old) (rig_of L.chips rig.old) }
+    ensures later { Later (busy (L.chips rig.old.line)) result places.old places.new }
+    ensures bytes { map bytes_of (L.chips rig.new.line) ≡ map bytes_of (L.chips rig.old.line) }
     ensures complete { SurveyComplete }
     ensures unchanged { BusyUnchanged }
     ensures busy { BusyAlways }

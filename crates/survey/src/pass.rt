@@ -14,7 +14,7 @@ pub fn make_pass<L: Line>(
     way: u64,
     count: u8,
 ) -> Result<(u64, u64), ExchangeFault>
-    ensures { (counting chips rig.new, result) ≡ pass_told way count (counting chips rig.old) }
+    ensures { (counting L.chips rig.new, result) ≡ pass_told way count (counting L.chips rig.old) }
 {
     if !rig.reset()? {
         return Err(ExchangeFault::Failed {

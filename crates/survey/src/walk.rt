@@ -45,7 +45,7 @@ fn turn(a: bool, b: bool, t: bool, word: u64, next: u64) -> u64
 
 // The 64 triples of a pass along a way: the number met and the way of the next pass, 0 where none is open; nothing where both bits were 1.
 pub fn walk<L: Line>(rig: &mut Rig<L>, start: u64) -> Result<Option<(u64, u64)>, RigFault>
-    ensures { (counting chips rig.new, result) ≡ does (walks start) (counting chips rig.old) }
+    ensures { (counting L.chips rig.new, result) ≡ does (walks start) (counting L.chips rig.old) }
 {
     let mut way = start;
     let mut word = 0;

@@ -1,10 +1,10 @@
 -- Making a tag in a lent place.
-use Rattle.std.specs.Prelude.{◌≡◌, ℕ, ◌^◌, ◌<◌, Bool, true, false, List, length, Some, None, Ok, Err, Option, Result, ◌==◌}
+use Rattle.std.specs.Prelude.{◌≡◌, ℕ, ◌^◌, ◌<◌, true, false, List, length, Some, None, Ok, Err, Option, Result, ◌==◌}
 use Rattle.number.specs.Numbers.{Checked}
 use Rattle.kind.specs.Kinds.{Rules, Lawful, Bytes}
 use Rattle.kind.specs.Making.{refusal}
 use Rattle.kind.specs.declared.fault.ImageFault.{ImageFault}
-use Rattle.memory.specs.Scratchpads.{Padded, on, fresh, idle}
+use Rattle.memory.specs.Scratchpads.{on, fresh, idle}
 use Rattle.memory.specs.Memories.{Memory, padded}
 use Rattle.chip.specs.Steps.{ChipState, made_chip}
 use Rattle.chip.specs.Histories.{Met}

@@ -14,7 +14,7 @@ fn place_tag<K: Kind + Drop>(
     number: Number,
     image: &[u8],
 ) -> Result<(), ImageFault>
-    ensures told { (place_of (λ p. padded (model rules bytes p)) place.new, answer_of result) ≡ placing rules number.word image.now (place_of (λ p. padded (model rules bytes p)) place.old) }
+    ensures told { (place_of (λ p. padded (model K.rules K.bytes p)) place.new, answer_of result) ≡ placing K.rules number.word image.now (place_of (λ p. padded (model K.rules K.bytes p)) place.old) }
     ensures kept { OnErr result (place.new ≡ place.old) }
 {
     let kind = K::from_image(image)?;
@@ -29,7 +29,7 @@ pub fn make_tag<K: Kind + Drop>(
     number: Number,
     image: &[u8],
 ) -> Result<(), ImageFault>
-    ensures told { (place_of (λ p. padded (model rules bytes p)) place.new, answer_of result) ≡ placing rules number.word image.now (place_of (λ p. padded (model rules bytes p)) place.old) }
+    ensures told { (place_of (λ p. padded (model K.rules K.bytes p)) place.new, answer_of result) ≡ placing K.rules number.word image.now (place_of (λ p. padded (model K.rules K.bytes p)) place.old) }
     ensures kept { OnErr result (place.new ≡ place.old) }
     ensures met { MadeMet }
 {

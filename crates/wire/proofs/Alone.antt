@@ -1,6 +1,6 @@
 -- A line on which one chip talks and the others are quiet: what it sends is what is read.
 use Rattle.std.proofs.Common.{◌≡◌, ℕ, zero, suc, ◌<◌, Bool, true, false, not, ◌&&◌, ◌||◌, List, [], ◌∷◌, ◌++◌, map, length, replicate, sym, refl, ap, ◌∙◌, subst, ap₂, append_assoc}
-use mathlib.Core.Bool.{and_true, or-false}
+use mathlib.Core.Bool.{and-true, or-false}
 use Rattle.bits.specs.Bits.{bits_of, value, bits_all}
 use Rattle.bits.proofs.Queues.{value_bits}
 use Rattle.kind.specs.Kinds.{Rules, Bytes}
@@ -71,7 +71,7 @@ busy_quiets [] q = refl
 busy_quiets (c ∷ cs) q = ap₂ (λ a b. a || b) (quiet true c q.0).2 (busy_quiets cs q.1)
 
 pub pull_put : (us vs : List ChipState) (c : ChipState) → QuietAll us → QuietAll vs → pull (us ++ (c ∷ vs)) ≡ pull_of c
-pull_put [] vs c qa qb = ap (λ b. pull_of c && b) (pull_quiets vs qb) ∙ and_true (pull_of c)
+pull_put [] vs c qa qb = ap (λ b. pull_of c && b) (pull_quiets vs qb) ∙ and-true (pull_of c)
 pull_put (u ∷ us) vs c qa qb = ap₂ (λ a b. a && b) (quiet true u qa.0).1 (pull_put us vs c qa.1 qb)
 
 pub busy_put : (us vs : List ChipState) (c : ChipState) → QuietAll us → QuietAll vs → busy (us ++ (c ∷ vs)) ≡ is_busy c
@@ -144,7 +144,7 @@ module _ (us vs : List ChipState) (qa : QuietAll us) (qb : QuietAll vs) where
     one_bit : {A : Type 0} (b : Bool) (rest : List Bool) (k : Job A) (r : Regs) (d : Doing) → is_programming d ≡ false → pull_doing d ≡ true
         → Leads (send_bits (b ∷ rest) k) (put (talking (on r d))) (send_bits rest k) (put (talking (take_on K m b r d)))
     one_bit b rest k r d e q =
-        subst (λ y. Leads (send_bits (b ∷ rest) k) (put (talking (on r d))) (send_bits rest k) (put (talking (take_on K m y r d)))) (ap (λ y. b && y) q ∙ and_true b)
+        subst (λ y. Leads (send_bits (b ∷ rest) k) (put (talking (on r d))) (send_bits rest k) (put (talking (take_on K m y r d)))) (ap (λ y. b && y) q ∙ and-true b)
         (slot_put b (λ _. send_bits rest k) (talking (on r d)) e)
 
     eight : {A : Type 0} (b0 b1 b2 b3 b4 b5 b6 b7 : Bool) (rest : List Bool) (k : Job A) (r : Regs) (w : Awaited)

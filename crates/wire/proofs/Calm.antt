@@ -1,6 +1,6 @@
 -- Jobs without a dwell: they change no byte; and when no pulse of a job is refused.
 use Rattle.std.proofs.Common.{◌≡◌, ℕ, zero, suc, ◌^◌, ◌<◌, Bool, true, false, ◌&&◌, ◌||◌, eqb, leb, List, [], ◌∷◌, ◌++◌, map, sym, refl, ap, ◌∙◌, subst, ap₂}
-use mathlib.Core.Bool.{and_true}
+use mathlib.Core.Bool.{and-true}
 use Rattle.std.proofs.lemmas.Bool.{or_parts}
 use Rattle.bits.specs.Bits.{bits_of, bits_all, value, full}
 use Rattle.number.specs.Numbers.{word_bytes}
@@ -374,7 +374,7 @@ pub heard_send : {A : Type 0} (bs : List Bool) (k : Job A) (l : List ChipState) 
 heard_send [] k l h u = subst (Unrefused k) (map-none l) u
 heard_send (b ∷ bs) k l h u = (
   hears_busy b bs l h,
-  subst (λ y. Unrefused (send_bits bs k) (map (take_bit y) l)) (sym (ap (λ y. b && y) (hears_pull b bs l h) ∙ and_true b))
+  subst (λ y. Unrefused (send_bits bs k) (map (take_bit y) l)) (sym (ap (λ y. b && y) (hears_pull b bs l h) ∙ and-true b))
       (heard_send bs k (map (take_bit b) l) (hears_on b bs l h) (subst (Unrefused k) (sym (map-takes b bs l)) u)),
 )
 

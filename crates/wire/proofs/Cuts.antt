@@ -1,6 +1,6 @@
 -- What holds of a job's answer whichever step is cut.
 use Rattle.std.proofs.Common.{◌≡◌, ℕ, zero, suc, Bool, true, false, ◌&&◌, List, [], ◌∷◌, map, sym, refl, ap, ◌∙◌, subst}
-use mathlib.Core.Bool.{and_true}
+use mathlib.Core.Bool.{and-true}
 use Rattle.chip.specs.Steps.{ChipState, take_bit, cut_chip, takes}
 use Rattle.rig.specs.Rigs.{FuseState, none, after, act, answer, deaf, pulse, refused, counted}
 use Rattle.rig.proofs.Unpowered.{cut_off}
@@ -40,7 +40,7 @@ module _ {A : Type 0} (P : A → Type 0) where
   safe_send (b ∷ bs) k l h d s = (
     hears_busy b bs l h,
     dead_send bs k d,
-    subst (λ y. CutSafe (send_bits bs k) (map (take_bit y) l)) (sym (ap (λ y. b && y) (hears_pull b bs l h) ∙ and_true b))
+    subst (λ y. CutSafe (send_bits bs k) (map (take_bit y) l)) (sym (ap (λ y. b && y) (hears_pull b bs l h) ∙ and-true b))
         (safe_send bs k (map (take_bit b) l) (hears_on b bs l h) d (subst (CutSafe k) (sym (map-takes b bs l)) s)),
   )
 

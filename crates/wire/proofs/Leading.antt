@@ -1,6 +1,6 @@
 -- Jobs on a line with no fuse: bits that every chip hears, and how an exchange opens.
 use Rattle.std.proofs.Common.{◌≡◌, ℕ, zero, suc, ◌+◌, ◌*◌, ◌/◌, ◌%◌, ◌^◌, ◌<◌, Bool, true, false, not, ◌&&◌, ◌||◌, List, [], ◌∷◌, ◌++◌, map, sym, refl, ap, ◌∙◌, subst, ap₂, append-nil, arith, pow-add}
-use mathlib.Core.Bool.{and_true, or-true}
+use mathlib.Core.Bool.{and-true, or-true}
 use native.Mathlib.Nat.{div-div-eq-div-mul}
 use Rattle.std.proofs.lemmas.Bool.{or_parts}
 use Rattle.bits.specs.Bits.{bits_of, bits_all, byte_of}
@@ -62,7 +62,7 @@ pub send_all : {A : Type 0} (bs : List Bool) (k : Job A) (l : List ChipState) �
 send_all [] k l h = subst (λ t. Leads k l k t) (sym (map-none l)) leads_none
 send_all (b ∷ bs) k l h =
     leads_then
-    (subst (λ y. Leads (send_bits (b ∷ bs) k) l (send_bits bs k) (map (take_bit y) l)) (ap (λ y. b && y) (hears_pull b bs l h) ∙ and_true b)
+    (subst (λ y. Leads (send_bits (b ∷ bs) k) l (send_bits bs k) (map (take_bit y) l)) (ap (λ y. b && y) (hears_pull b bs l h) ∙ and-true b)
     (leads_step (slots b) (λ _. send_bits bs k) l (hears_busy b bs l h)))
     (subst (λ t. Leads (send_bits bs k) (map (take_bit b) l) k t) (map-takes b bs l) (send_all bs k (map (take_bit b) l) (hears_on b bs l h)))
 

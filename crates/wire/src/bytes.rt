@@ -7,7 +7,7 @@ use rig::fault::RigFault;
 use rig::master::Rig;
 
 pub fn send_byte<L: Line>(rig: &mut Rig<L>, byte: u8) -> Result<(), RigFault>
-    ensures { (counting chips rig.new, result) ≡ does (sends (byte ∷ [])) (counting chips rig.old) }
+    ensures { (counting L.chips rig.new, result) ≡ does (sends (byte ∷ [])) (counting L.chips rig.old) }
 {
     let mut rest = byte;
     for i in 0..8u8 {
@@ -18,7 +18,7 @@ pub fn send_byte<L: Line>(rig: &mut Rig<L>, byte: u8) -> Result<(), RigFault>
 }
 
 pub fn send_bytes<L: Line>(rig: &mut Rig<L>, bytes: &[u8]) -> Result<(), RigFault>
-    ensures { (counting chips rig.new, result) ≡ does (sends bytes.now) (counting chips rig.old) }
+    ensures { (counting L.chips rig.new, result) ≡ does (sends bytes.now) (counting L.chips rig.old) }
 {
     for byte in bytes {
         send_byte(rig, *byte)?;
@@ -27,7 +27,7 @@ pub fn send_bytes<L: Line>(rig: &mut Rig<L>, bytes: &[u8]) -> Result<(), RigFaul
 }
 
 pub fn read_byte<L: Line>(rig: &mut Rig<L>) -> Result<u8, RigFault>
-    ensures { (counting chips rig.new, result) ≡ does reads_byte (counting chips rig.old) }
+    ensures { (counting L.chips rig.new, result) ≡ does reads_byte (counting L.chips rig.old) }
 {
     let mut got = 0;
     for i in 0..8u8 {
@@ -45,7 +45,7 @@ fn shifted(got: u8, bit: bool) -> u8
 }
 
 pub fn read_bytes<L: Line, const N: usize>(rig: &mut Rig<L>) -> Result<[u8; N], RigFault>
-    ensures { (counting chips rig.new, result) ≡ does (reads N) (counting chips rig.old) }
+    ensures { (counting L.chips rig.new, result) ≡ does (reads N) (counting L.chips rig.old) }
 {
     let mut got = [0; N];
     for i in 0..N {

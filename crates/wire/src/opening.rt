@@ -10,7 +10,7 @@ use rig::master::Rig;
 
 // Reset with presence, 55h and the number.
 pub fn begin<L: Line>(rig: &mut Rig<L>, number: Number, exchange: u8) -> Result<(), ExchangeFault>
-    ensures { (counting chips rig.new, result) ≡ begins number.word exchange (counting chips rig.old) }
+    ensures { (counting L.chips rig.new, result) ≡ begins number.word exchange (counting L.chips rig.old) }
 {
     if !rig.reset()? {
         return Err(ExchangeFault::Failed {

@@ -26,7 +26,7 @@ pub fn load<L: Line>(
     row: u16,
     new: &[u8; ROW],
 ) -> Result<(), ExchangeFault>
-    ensures { Told (loads number.word row new.now) (counting chips rig.old) (counting chips rig.new) result }
+    ensures { Told (loads number.word row new.now) (counting L.chips rig.old) (counting L.chips rig.new) result }
 {
     let head = [0x0F, (row % 256) as u8, (row / 256) as u8];
     begin(rig, number, 1)?;
@@ -50,7 +50,7 @@ pub fn check<L: Line>(
     number: Number,
     row: u16,
 ) -> Result<[u8; ROW], ExchangeFault>
-    ensures { Told (checks number.word row) (counting chips rig.old) (counting chips rig.new) result }
+    ensures { Told (checks number.word row) (counting L.chips rig.old) (counting L.chips rig.new) result }
 {
     begin(rig, number, 2)?;
     send_bytes(rig, &[0xAA])?;
@@ -78,7 +78,7 @@ pub fn check<L: Line>(
 
 // 55h with address and status, dwell, and the byte that says whether the tag has programmed.
 pub fn copy<L: Line>(rig: &mut Rig<L>, number: Number, row: u16) -> Result<bool, ExchangeFault>
-    ensures { Told (copies number.word row) (counting chips rig.old) (counting chips rig.new) result }
+    ensures { Told (copies number.word row) (counting L.chips rig.old) (counting L.chips rig.new) result }
 {
     begin(rig, number, 3)?;
     send_bytes(rig, &[0x55, (row % 256) as u8, (row / 256) as u8, WHOLE])?;

@@ -18,12 +18,12 @@ loop-i-preserved g c =
     let i = c.loop-i.i in
     let calls = c.args.calls.now in
     let answers = c.loop-i.answers in
-    let a = c.make-call.result in
+    let a = c.make_call.result in
     let asked : i < length calls = omega arith in
     let room : i < length answers = omega arith in
     let below : i < i + 1 = omega arith in (
-      played_more calls answers i c.index-calls-i.result a (rig_of g.L.Line.chips c.args.rig.now) (rig_of g.L.Line.chips c.loop-i.rig) (rig_of g.L.Line.chips c.make-call.new.rig)
-          asked room c.loop-i.invariant.0 c.make-call.ensures c.index-calls-i.is,
+      played_more calls answers i c.index-calls-i.result a (rig_of g.L.Line.chips c.args.rig.now) (rig_of g.L.Line.chips c.loop-i.rig) (rig_of g.L.Line.chips c.make_call.new.rig)
+          asked room c.loop-i.invariant.0 c.make_call.ensures c.index-calls-i.is,
       drop-set-lt (i + 1) answers i a below ∙ drop-on answers c.args.answers.now i c.loop-i.invariant.1,
     )
 

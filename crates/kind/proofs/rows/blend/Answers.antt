@@ -1,4 +1,4 @@
-use Rattle.std.proofs.Common.{arith, rules}
+use Rattle.std.proofs.Common.{rules}
 use Rattle.kind.proofs.Blending.{blend_word}
 use Rattle.kind.proofs.rows.blend.Goals as goal
 

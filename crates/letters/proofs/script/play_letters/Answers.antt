@@ -11,13 +11,13 @@ loop-i-preserved g c =
     let i = c.loop-i.i in
     let input = c.args.input.now in
     let output = c.loop-i.output in
-    let x = c.play-letter.result in
+    let x = c.play_letter.result in
     let asked : i < length input = omega arith in
     let room : i < length output = omega arith in
     let below : i < i + 1 = omega arith in (
       letter_more input output i x (rig_of g.L.Line.chips c.args.rig.now) (rig_of g.L.Line.chips c.loop-i.rig)
-          (rig_of g.L.Line.chips c.play-letter.new.rig) asked room c.loop-i.invariant.0
-          (c.play-letter.ensures ∙ ap (λ k. script k (rig_of g.L.Line.chips c.loop-i.rig)) c.from.ensures),
+          (rig_of g.L.Line.chips c.play_letter.new.rig) asked room c.loop-i.invariant.0
+          (c.play_letter.ensures ∙ ap (λ k. script k (rig_of g.L.Line.chips c.loop-i.rig)) c.from.ensures),
       drop-set-lt (i + 1) output i x below ∙ drop-on output c.args.output.now i c.loop-i.invariant.1,
     )
 

@@ -20,8 +20,8 @@ returns-then-row-ne0 g c =
 pub returns : goal.returns
 returns g c =
     record {
-      told = order_called c.args.number.word c.args.row c.args.new.now c.if-row-ne0.false (ap (λ d. d.steps) c.begin-count.ensures) c.order_steps.ensures
-          ∙ ap (λ d. order_call c.args.number.word c.args.row c.args.new.now d.rig) c.begin-count.ensures;
+      told = order_called c.args.number.word c.args.row c.args.new.now c.if-row-ne0.false (ap (λ d. d.steps) c.begin_count.ensures) c.order_steps.ensures
+          ∙ ap (λ d. order_call c.args.number.word c.args.row c.args.new.now d.rig) c.begin_count.ensures;
       tells = order-tells;
       unchanged = busy_unchanged;
       uncopied = uncopied;

@@ -29,12 +29,12 @@ returns-then-row-ne0 g c =
       lines = line_laws;
     }
 
-pub returns-in-err-found : goal.returns-in-err-found
-returns-in-err-found g c =
-    let p = err_from_is_err_and c.from-residual.result c.from-residual.ensures.1 in
+pub returns-in_err-found : goal.returns-in_err-found
+returns-in_err-found g c =
+    let p = err_from_is_err_and c.from_residual.result c.from_residual.ensures.1 in
     let told =
-    read_err c.args.number.word c.args.row c.in-err-found.field-0.0 c.args.into.now c.if-row-ne0.false (ap (λ d. d.steps) c.begin-count.ensures) c.in-err-found.ensures
-    ∙ ap (λ d. read_call c.args.number.word c.args.row d.rig) c.begin-count.ensures in
+    read_err c.args.number.word c.args.row c.in_err-found.field-0.0 c.args.into.now c.if-row-ne0.false (ap (λ d. d.steps) c.begin_count.ensures) c.in_err-found.ensures
+    ∙ ap (λ d. read_call c.args.number.word c.args.row d.rig) c.begin_count.ensures in
     rw (p.1, p.2)
     (record {
       told = told;
@@ -50,8 +50,8 @@ returns-in-err-found g c =
 pub returns : goal.returns
 returns g c =
     let told =
-    read_ok c.args.number.word c.args.row c.if-row-ne0.false (ap (λ d. d.steps) c.begin-count.ensures) c.in-ok-found.ensures
-    ∙ ap (λ d. read_call c.args.number.word c.args.row d.rig) c.begin-count.ensures in
+    read_ok c.args.number.word c.args.row c.if-row-ne0.false (ap (λ d. d.steps) c.begin_count.ensures) c.in_ok-found.ensures
+    ∙ ap (λ d. read_call c.args.number.word c.args.row d.rig) c.begin_count.ensures in
     record {
       told = told;
       kept = λ e. absurd (true≢false (sym e));

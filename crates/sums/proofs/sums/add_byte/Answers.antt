@@ -1,4 +1,4 @@
-use Rattle.std.proofs.Common.{◌≡◌, suc, ◌/◌, sym, refl, ap, ◌∙◌, arith}
+use Rattle.std.proofs.Common.{◌≡◌, suc, ◌/◌, ap, ◌∙◌, arith}
 use Rattle.bits.specs.Bits.{bits_of}
 use Rattle.sums.specs.Sums.{crc_bits}
 use Rattle.sums.proofs.sums.add_byte.Goals as goal
@@ -8,7 +8,7 @@ loop-i-init c = λ n h. let e : n ≡ 8 = omega arith in ap (λ k. crc_bits c.ar
 
 pub loop-i-preserved : goal.loop-i-preserved
 loop-i-preserved c = λ n h.
-    ap (λ s. crc_bits c.args.poly s (bits_of n (c.loop-i.rest / 2))) c.add-bit-state.ensures
+    ap (λ s. crc_bits c.args.poly s (bits_of n (c.loop-i.rest / 2))) c.add_bit-state.ensures
     ∙ c.loop-i.invariant (suc n) (omega arith)
 
 pub returns : goal.returns

@@ -13,10 +13,10 @@ loop-i-preserved g c =
     let d = counting g.L.Line.chips c.loop-i.rig in
     let lt : c.loop-i.i < length c.loop-i.places = omega arith in (
       λ n h. left_more c.args.room d0 c.loop-i.i n c.loop-i.way d c.loop-i.places c.args.places.now (c.loop-i.invariant.0 (suc n) (omega arith))
-          c.in-ok-word.word c.in-ok-word.next c.in-ok-word.ensures lt c.if-next-eq0.false,
+          c.in_ok-word.word c.in_ok-word.next c.in_ok-word.ensures lt c.if-next-eq0.false,
       later_more c.args.room d0 c.loop-i.i (c.args.room - suc c.loop-i.i) c.loop-i.way d c.loop-i.places c.args.places.now (c.loop-i.invariant.0 (suc (c.args.room - suc c.loop-i.i)) (omega arith))
-          c.in-ok-word.word c.in-ok-word.next c.in-ok-word.ensures lt c.loop-i.invariant.1,
-      untouched_more c.loop-i.way (c.loop-i.i + 1) d0 d _ c.in-ok-word.word c.in-ok-word.next c.args.places.now c.loop-i.places _ c.loop-i.invariant.2 c.in-ok-word.ensures,
+          c.in_ok-word.word c.in_ok-word.next c.in_ok-word.ensures lt c.loop-i.invariant.1,
+      untouched_more c.loop-i.way (c.loop-i.i + 1) d0 d _ c.in_ok-word.word c.in_ok-word.next c.args.places.now c.loop-i.places _ c.loop-i.invariant.2 c.in_ok-word.ensures,
     )
 
 pub returns-then-next-eq0 : goal.returns-then-next-eq0
@@ -24,15 +24,15 @@ returns-then-next-eq0 g c =
     let n = c.args.room - suc c.loop-i.i in
     let lt : c.loop-i.i < length c.loop-i.places = omega arith in
     left_last c.args.room (counting g.L.Line.chips c.args.rig.now) c.loop-i.i n c.loop-i.way (counting g.L.Line.chips c.loop-i.rig) c.loop-i.places c.args.places.now (c.loop-i.invariant.0 (suc n) (omega arith))
-    c.in-ok-word.word c.in-ok-word.next c.in-ok-word.ensures lt c.steps.result c.steps.ensures c.if-next-eq0.true c.loop-i.invariant.1
+    c.in_ok-word.word c.in_ok-word.next c.in_ok-word.ensures lt c.steps.result c.steps.ensures c.if-next-eq0.true c.loop-i.invariant.1
 
-pub returns-in-err-word : goal.returns-in-err-word
-returns-in-err-word g c =
+pub returns-in_err-word : goal.returns-in_err-word
+returns-in_err-word g c =
     let n = c.args.room - suc c.loop-i.i in
-    let p = err_from_is_err_and c.from-residual.result c.from-residual.ensures.1 in
+    let p = err_from_is_err_and c.from_residual.result c.from_residual.ensures.1 in
     rw (p.1, p.2)
     (left_fails c.args.room (counting g.L.Line.chips c.args.rig.now) c.loop-i.i n c.loop-i.way (counting g.L.Line.chips c.loop-i.rig) c.loop-i.places c.args.places.now (c.loop-i.invariant.0 (suc n) (omega arith))
-    c.in-err-word.field-0.0 c.in-err-word.ensures c.loop-i.invariant.1 c.loop-i.invariant.2)
+    c.in_err-word.field-0.0 c.in_err-word.ensures c.loop-i.invariant.1 c.loop-i.invariant.2)
 
 pub returns : goal.returns
 returns g c =

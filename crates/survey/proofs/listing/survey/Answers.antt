@@ -30,12 +30,12 @@ returns-then-places-eq0 g c =
 pub returns : goal.returns
 returns g c =
     let told =
-    survey_called (length c.args.places.now) c.room-of-room.result (counting g.L.Line.chips c.begin-count.new.self) (counting g.L.Line.chips c.list-numbers.new.rig)
-    c.args.places.now c.list-numbers.new.places c.list-numbers.result c.if-places-eq0.false c.room-of-room.ensures (ap (λ d. d.steps) c.begin-count.ensures) c.list-numbers.ensures
-    ∙ ap (λ d. survey_call (length c.args.places.now) d.rig) c.begin-count.ensures in
+    survey_called (length c.args.places.now) c.room_of-room.result (counting g.L.Line.chips c.begin_count.new.self) (counting g.L.Line.chips c.list_numbers.new.rig)
+    c.args.places.now c.list_numbers.new.places c.list_numbers.result c.if-places-eq0.false c.room_of-room.ensures (ap (λ d. d.steps) c.begin_count.ensures) c.list_numbers.ensures
+    ∙ ap (λ d. survey_call (length c.args.places.now) d.rig) c.begin_count.ensures in
     record {
       told = told;
-      later = subst (λ d. Later (busy d.rig.line) c.list-numbers.result c.args.places.now c.list-numbers.new.places) c.begin-count.ensures c.list-numbers.ensures.later;
+      later = subst (λ d. Later (busy d.rig.line) c.list_numbers.result c.args.places.now c.list_numbers.new.places) c.begin_count.ensures c.list_numbers.ensures.later;
       bytes = same (rig_of g.L.Line.chips c.args.rig.now) (length c.args.places.now) told;
       complete = survey_complete;
       unchanged = busy_unchanged;

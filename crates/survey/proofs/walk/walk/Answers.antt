@@ -13,31 +13,31 @@ loop-i-init g c = λ n h. let e : n ≡ 64 = omega arith in rw e (ap (λ p. does
 pub loop-i-preserved : goal.loop-i-preserved
 loop-i-preserved g c = λ n h.
     simp (c.turn-next.ensures, c.shifted-word.ensures)
-    (sym (walk_more n c.loop-i.way c.loop-i.word c.loop-i.next (counting g.L.Line.chips c.loop-i.rig) c.in-ok-a.ensures c.in-ok-b.ensures c.choose-t.result c.if-a-b.false c.choose-t.ensures c.in-ok-slot.ensures)
+    (sym (walk_more n c.loop-i.way c.loop-i.word c.loop-i.next (counting g.L.Line.chips c.loop-i.rig) c.in_ok-a.ensures c.in_ok-b.ensures c.choose-t.result c.if-a-b.false c.choose-t.ensures c.in_ok-slot.ensures)
     ∙ c.loop-i.invariant (suc n) (omega arith))
 
-pub returns-in-err-a : goal.returns-in-err-a
-returns-in-err-a g c =
+pub returns-in_err-a : goal.returns-in_err-a
+returns-in_err-a g c =
     let n = 63 - c.loop-i.i in
-    let p = err_from_is_err_and c.from-residual.result c.from-residual.ensures.1 in
-    rw (p.1, p.2) (sym (walk_err1 n c.loop-i.way c.loop-i.word c.loop-i.next (counting g.L.Line.chips c.loop-i.rig) c.in-err-a.ensures) ∙ c.loop-i.invariant (suc n) (omega arith))
+    let p = err_from_is_err_and c.from_residual.result c.from_residual.ensures.1 in
+    rw (p.1, p.2) (sym (walk_err1 n c.loop-i.way c.loop-i.word c.loop-i.next (counting g.L.Line.chips c.loop-i.rig) c.in_err-a.ensures) ∙ c.loop-i.invariant (suc n) (omega arith))
 
-pub returns-in-err-b : goal.returns-in-err-b
-returns-in-err-b g c =
+pub returns-in_err-b : goal.returns-in_err-b
+returns-in_err-b g c =
     let n = 63 - c.loop-i.i in
-    let p = err_from_is_err_and c.from-residual-in-err-b.result c.from-residual-in-err-b.ensures.1 in
-    rw (p.1, p.2) (sym (walk_err2 n c.loop-i.way c.loop-i.word c.loop-i.next (counting g.L.Line.chips c.loop-i.rig) c.in-ok-a.ensures c.in-err-b.ensures) ∙ c.loop-i.invariant (suc n) (omega arith))
+    let p = err_from_is_err_and c.from_residual-in_err-b.result c.from_residual-in_err-b.ensures.1 in
+    rw (p.1, p.2) (sym (walk_err2 n c.loop-i.way c.loop-i.word c.loop-i.next (counting g.L.Line.chips c.loop-i.rig) c.in_ok-a.ensures c.in_err-b.ensures) ∙ c.loop-i.invariant (suc n) (omega arith))
 
-pub returns-in-err-slot : goal.returns-in-err-slot
-returns-in-err-slot g c =
+pub returns-in_err-slot : goal.returns-in_err-slot
+returns-in_err-slot g c =
     let n = 63 - c.loop-i.i in
-    let p = err_from_is_err_and c.from-residual-in-err-slot.result c.from-residual-in-err-slot.ensures.1 in
-    rw (p.1, p.2) (sym (walk_err3 n c.loop-i.way c.loop-i.word c.loop-i.next (counting g.L.Line.chips c.loop-i.rig) c.in-ok-a.ensures c.in-ok-b.ensures c.choose-t.result c.if-a-b.false c.choose-t.ensures c.in-err-slot.ensures) ∙ c.loop-i.invariant (suc n) (omega arith))
+    let p = err_from_is_err_and c.from_residual-in_err-slot.result c.from_residual-in_err-slot.ensures.1 in
+    rw (p.1, p.2) (sym (walk_err3 n c.loop-i.way c.loop-i.word c.loop-i.next (counting g.L.Line.chips c.loop-i.rig) c.in_ok-a.ensures c.in_ok-b.ensures c.choose-t.result c.if-a-b.false c.choose-t.ensures c.in_err-slot.ensures) ∙ c.loop-i.invariant (suc n) (omega arith))
 
 pub returns-then-a-b : goal.returns-then-a-b
 returns-then-a-b g c =
     let n = 63 - c.loop-i.i in
-    sym (walk_lost n c.loop-i.way c.loop-i.word c.loop-i.next (counting g.L.Line.chips c.loop-i.rig) c.in-ok-a.ensures c.in-ok-b.ensures c.if-a-b.true) ∙ c.loop-i.invariant (suc n) (omega arith)
+    sym (walk_lost n c.loop-i.way c.loop-i.word c.loop-i.next (counting g.L.Line.chips c.loop-i.rig) c.in_ok-a.ensures c.in_ok-b.ensures c.if-a-b.true) ∙ c.loop-i.invariant (suc n) (omega arith)
 
 pub returns : goal.returns
 returns g c = sym (does-ret (Some (c.loop-i.word, c.loop-i.next)) (counting g.L.Line.chips c.loop-i.rig)) ∙ c.loop-i.invariant 0 (omega arith)

@@ -1,4 +1,4 @@
-use Rattle.std.proofs.Common.{◌≡◌, ℕ, suc, ◌+◌, ◌-◌, true, sym, ap, ◌∙◌, arith}
+use Rattle.std.proofs.Common.{◌≡◌, suc, ◌-◌, true, sym, ap, ◌∙◌, arith}
 use Rattle.std.proofs.lemmas.Result.{err_from_is_err_and}
 use Rattle.rig.specs.Rigs.{slots}
 use Rattle.rig.specs.Meaning.{counting}
@@ -14,13 +14,13 @@ loop-i-init g c = λ n h.
 pub loop-i-preserved : goal.loop-i-preserved
 loop-i-preserved g c = λ n h.
     simp c.shifted-got.ensures
-    (sym (step_ok (slots true) (λ b. read_rest (shift_in c.loop-i.got b) n) (counting g.L.Line.chips c.loop-i.rig) c.in-ok-bit.ensures) ∙ c.loop-i.invariant (suc n) (omega arith))
+    (sym (step_ok (slots true) (λ b. read_rest (shift_in c.loop-i.got b) n) (counting g.L.Line.chips c.loop-i.rig) c.in_ok-bit.ensures) ∙ c.loop-i.invariant (suc n) (omega arith))
 
-pub returns-in-err-bit : goal.returns-in-err-bit
-returns-in-err-bit g c =
+pub returns-in_err-bit : goal.returns-in_err-bit
+returns-in_err-bit g c =
     let n = 7 - c.loop-i.i in
-    let p = err_from_is_err_and c.from-residual.result c.from-residual.ensures.1 in
-    rw (p.1, p.2) (sym (step_err (slots true) (λ b. read_rest (shift_in c.loop-i.got b) n) (counting g.L.Line.chips c.loop-i.rig) c.in-err-bit.ensures) ∙ c.loop-i.invariant (suc n) (omega arith))
+    let p = err_from_is_err_and c.from_residual.result c.from_residual.ensures.1 in
+    rw (p.1, p.2) (sym (step_err (slots true) (λ b. read_rest (shift_in c.loop-i.got b) n) (counting g.L.Line.chips c.loop-i.rig) c.in_err-bit.ensures) ∙ c.loop-i.invariant (suc n) (omega arith))
 
 pub returns : goal.returns
 returns g c = sym (does-ret c.loop-i.got (counting g.L.Line.chips c.loop-i.rig)) ∙ c.loop-i.invariant 0 (omega arith)

@@ -15,23 +15,23 @@ loop-i-preserved g c =
     let d = counting g.L.Line.chips c.loop-i.rig in
     let got = c.loop-i.got in
     let i = c.loop-i.i in
-    let x = c.in-ok-got.field-0 in
+    let x = c.in_ok-got.field-0 in
     let lt : i < length got = omega (arith, c.loop-i.invariant.0) in (
       simp length-set c.loop-i.invariant.0,
       λ n h.
-          sym (ap (λ p. does p d) (reads_more (take i got) n) ∙ bind_ok reads_byte (λ x. reads_rest (take i got ++ (x ∷ [])) n) d c.in-ok-got.ensures
-          ∙ ap (λ l. does (reads_rest l n) (counting g.L.Line.chips c.read-byte.new.rig)) (sym (take-suc-set got i x lt) ∙ ap (λ k. take k (set got i x)) (sym (add-one i))))
+          sym (ap (λ p. does p d) (reads_more (take i got) n) ∙ bind_ok reads_byte (λ x. reads_rest (take i got ++ (x ∷ [])) n) d c.in_ok-got.ensures
+          ∙ ap (λ l. does (reads_rest l n) (counting g.L.Line.chips c.read_byte.new.rig)) (sym (take-suc-set got i x lt) ∙ ap (λ k. take k (set got i x)) (sym (add-one i))))
           ∙ c.loop-i.invariant.1 (suc n) (omega arith),
     )
 
-pub returns-in-err-got : goal.returns-in-err-got
-returns-in-err-got g c =
+pub returns-in_err-got : goal.returns-in_err-got
+returns-in_err-got g c =
     let d = counting g.L.Line.chips c.loop-i.rig in
     let l = take c.loop-i.i c.loop-i.got in
     let n = g.row.N - suc c.loop-i.i in
-    let p = err_from_is_err_and c.from-residual.result c.from-residual.ensures.1 in
+    let p = err_from_is_err_and c.from_residual.result c.from_residual.ensures.1 in
     rw (p.1, p.2)
-    (sym (ap (λ p. does p d) (reads_more l n) ∙ bind_err reads_byte (λ x. reads_rest (l ++ (x ∷ [])) n) d c.in-err-got.ensures) ∙ c.loop-i.invariant.1 (suc n) (omega arith))
+    (sym (ap (λ p. does p d) (reads_more l n) ∙ bind_err reads_byte (λ x. reads_rest (l ++ (x ∷ [])) n) d c.in_err-got.ensures) ∙ c.loop-i.invariant.1 (suc n) (omega arith))
 
 pub returns : goal.returns
 returns g c =

@@ -1,4 +1,4 @@
-use Rattle.std.proofs.Common.{◌≡◌, ℕ, ◌+◌, [], ◌∷◌, get_or, drop, sym, ap, ◌∙◌}
+use Rattle.std.proofs.Common.{◌+◌, [], ◌∷◌, get_or, drop, sym, ap, ◌∙◌}
 use Rattle.std.proofs.lemmas.List.{at_drop_more, at_drop_all}
 use Rattle.std.proofs.lemmas.Result.{err_from_is_err_and}
 use Rattle.rig.specs.Meaning.{counting}
@@ -12,18 +12,18 @@ loop-byte-preserved g c =
     let xs = c.args.bytes.now in
     let i = c.loop-byte.byte-index in
     sym (at_drop_more (λ l. does (sends l) d) xs i 0 c.loop-byte-test.true ∙ ap (λ p. does p d) (sends_more (get_or xs i 0) (drop (i + 1) xs))
-    ∙ bind_ok (sends (get_or xs i 0 ∷ [])) (λ _. sends (drop (i + 1) xs)) d c.in-ok-send-byte.ensures)
+    ∙ bind_ok (sends (get_or xs i 0 ∷ [])) (λ _. sends (drop (i + 1) xs)) d c.in_ok-send_byte.ensures)
     ∙ c.loop-byte.invariant
 
-pub returns-in-err-send-byte : goal.returns-in-err-send-byte
-returns-in-err-send-byte g c =
+pub returns-in_err-send_byte : goal.returns-in_err-send_byte
+returns-in_err-send_byte g c =
     let d = counting g.L.Line.chips c.loop-byte.rig in
     let xs = c.args.bytes.now in
     let i = c.loop-byte.byte-index in
-    let p = err_from_is_err_and c.from-residual.result c.from-residual.ensures.1 in
+    let p = err_from_is_err_and c.from_residual.result c.from_residual.ensures.1 in
     rw (p.1, p.2)
     (sym (at_drop_more (λ l. does (sends l) d) xs i 0 c.loop-byte-test.true ∙ ap (λ p. does p d) (sends_more (get_or xs i 0) (drop (i + 1) xs))
-    ∙ bind_err (sends (get_or xs i 0 ∷ [])) (λ _. sends (drop (i + 1) xs)) d c.in-err-send-byte.ensures)
+    ∙ bind_err (sends (get_or xs i 0 ∷ [])) (λ _. sends (drop (i + 1) xs)) d c.in_err-send_byte.ensures)
     ∙ c.loop-byte.invariant)
 
 pub returns : goal.returns

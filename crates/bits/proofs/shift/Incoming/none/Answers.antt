@@ -1,5 +1,4 @@
 use Rattle.std.proofs.Common.{refl}
-use Rattle.bits.specs.Bits.{bits_of}
 use Rattle.bits.specs.Shift.{arrived}
 use Rattle.bits.proofs.shift.Incoming.none.Goals as goal
 

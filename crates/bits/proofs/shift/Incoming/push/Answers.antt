@@ -1,12 +1,12 @@
-use Rattle.std.proofs.Common.{◌≡◌, ◌+◌, sym, refl, ap, ◌∙◌, arith}
+use Rattle.std.proofs.Common.{◌≡◌, ◌+◌, sym, ap, ◌∙◌, arith}
 use Rattle.std.proofs.lemmas.Bool.{eq-eqb, ne_eqb}
-use Rattle.bits.specs.Bits.{value, bits_of}
+use Rattle.bits.specs.Bits.{value}
 use Rattle.bits.specs.Shift.{arrived}
 use Rattle.bits.proofs.Queues.{grown_small, grown_bits, grown_full, value_bits}
 use Rattle.bits.proofs.shift.Incoming.push.Goals as goal
 
-pub invariant-of-result : goal.invariant-of-result
-invariant-of-result c = (omega arith, (grown_small c.args.self.count c.args.self.bits c.args.bit c.args.self.few c.args.self.small, tt))
+pub invariant_of-result : goal.invariant_of-result
+invariant_of-result c = record { few = omega arith; small = grown_small c.args.self.count c.args.self.bits c.args.bit c.args.self.few c.args.self.small }
 
 pub returns-then-self-lt7 : goal.returns-then-self-lt7
 unfolding arrived

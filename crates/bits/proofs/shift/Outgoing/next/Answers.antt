@@ -1,4 +1,4 @@
-use Rattle.std.proofs.Common.{◌≡◌, ◌-◌, ◌/◌, [], ◌++◌, sym, refl, ap, ◌∙◌, arith}
+use Rattle.std.proofs.Common.{◌≡◌, ◌-◌, ◌/◌, [], ◌++◌, ap, ◌∙◌, arith}
 use Rattle.bits.specs.Bits.{bits_of, rest_bits}
 use Rattle.bits.specs.Shift.{queue}
 use Rattle.bits.proofs.Queues.{bits_rest, bits_left, rest_ahead}

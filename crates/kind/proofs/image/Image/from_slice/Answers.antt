@@ -1,4 +1,4 @@
-use Rattle.std.proofs.Common.{◌≡◌, ◌+◌, ◌<◌, ◌≤◌, true, cond, eqb, [], ◌∷◌, ◌++◌, length, get_or, take, sym, refl, ap, ◌∙◌, arith, length-set}
+use Rattle.std.proofs.Common.{◌≡◌, ◌<◌, ◌≤◌, true, cond, eqb, [], ◌∷◌, ◌++◌, length, get_or, sym, refl, ap, ◌∙◌, arith, length-set}
 use lib.ListN.{length-replicate}
 use Rattle.std.proofs.lemmas.Bool.{eq-eqb}
 use Rattle.kind.specs.Kinds.{holding, refused}
@@ -20,11 +20,11 @@ loop-i-preserved g c =
     let there : i < length bytes = omega arith in (
       length-set held i x ∙ c.loop-i.invariant.0,
       take_more_set held i x room ∙ ap (λ l. l ++ (x ∷ [])) front ∙ sym (take_more bytes i 0 there),
-      bytes_set held i x c.loop-i.invariant.2 (omega (arith, c.type-inv.bytes i)),
+      bytes_set held i x c.loop-i.invariant.2 (omega (arith, c.type_inv.bytes i)),
     )
 
-pub invariant-of-result : goal.invariant-of-result
-invariant-of-result g c = (c.loop-i.invariant.0, (c.loop-i.invariant.2, tt))
+pub invariant_of-result : goal.invariant_of-result
+invariant_of-result g c = record { whole = c.loop-i.invariant.0; small = c.loop-i.invariant.2 }
 
 pub returns : goal.returns
 returns g c =

@@ -1,14 +1,14 @@
-use Rattle.std.proofs.Common.{◌≡◌, ◌+◌, ◌<◌, ◌≤◌, length, ap, ◌∙◌, arith, rules}
+use Rattle.std.proofs.Common.{◌≡◌, ◌+◌, ◌<◌, ◌≤◌, length, ap, ◌∙◌, arith}
 use Rattle.kind.proofs.Programming.{none_yet, row_step, no_more}
 use Rattle.kind.proofs.image.Image.program.Goals as goal
-use Rattle.kind.proofs.image.Image.program.Goals.{then_at, else-at}
+use Rattle.kind.proofs.image.Image.program.Goals.{then-at, else-at}
 
 pub loop-i-init : goal.loop-i-init
 loop-i-init g c = none_yet (length c.args.self.now.bytes) c.args.row c.args.new.now c.args.mask c.args.self.now.bytes
 
 pub loop-i-preserved : goal.loop-i-preserved
 loop-i-preserved g c = elim c.if-at.branch [
-  | then_at w ↦
+  | then-at w ↦
       let eight : length c.args.new.now ≡ 8 = c.told-new in
       let within : c.args.row + c.loop-i.i < length c.args.self.now.bytes = omega (arith, c.args.self.now.whole) in
       ap (λ s. s.bytes) w.self-is

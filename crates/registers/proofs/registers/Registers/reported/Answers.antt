@@ -1,7 +1,7 @@
-use Rattle.std.proofs.Common.{◌≡◌, ◌+◌, ◌-◌, ◌%◌, ◌<◌, ◌≤◌, ◌∷◌, length, get_or, drop, sym, refl, ap, ◌∙◌, arith, rules}
+use Rattle.std.proofs.Common.{◌≡◌, ◌%◌, ◌≤◌, length, arith, rules}
 use Rattle.registers.specs.Meaning.{regs_of}
 use Rattle.registers.proofs.Reports.{reported_more, reported-done}
-use Rattle.memory.specs.Scratchpads.{report, status}
+use Rattle.memory.specs.Scratchpads.{status}
 use Rattle.registers.proofs.registers.Registers.reported.Goals as goal
 
 pub returns-then-at-lt-ROW : goal.returns-then-at-lt-ROW

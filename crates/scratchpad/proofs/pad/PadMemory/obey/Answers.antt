@@ -1,4 +1,4 @@
-use mathlib.Core.Path.{◌≡◌, refl, sym, ◌∙◌, ap}
+use mathlib.Core.Path.{sym, ◌∙◌, ap}
 use lib.ListN.{drop}
 use Rattle.bits.specs.Bits.{bits_all}
 use Rattle.memory.specs.Scratchpads.{working, on, sending, report, obey, command_of}
@@ -12,5 +12,5 @@ returns-in-170 g c =
     let r = regs_of c.args.self.now.regs in
     let p = model g.K.Kind.rules g.K.Kind.bytes c.args.self.now in
     ap (λ d. working p (on r d))
-    (c.report-from-self.ensures ∙ ap (λ s. sending (bits_all (closing s (drop 0 (report r))))) c.crc16-more.ensures ∙ ap sending (closing_all (report r)))
+    (c.report_from-self.ensures ∙ ap (λ s. sending (bits_all (closing s (drop 0 (report r))))) c.crc16_more.ensures ∙ ap sending (closing_all (report r)))
     ∙ ap (λ b. working p (obey g.K.Kind.rules (g.K.Kind.bytes c.args.self.now.kind) (command_of b) r)) (sym c.in-170.is)

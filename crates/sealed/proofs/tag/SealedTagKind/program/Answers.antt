@@ -1,4 +1,4 @@
-use Rattle.std.proofs.Common.{◌≡◌, replicate, sym, ap, ◌∙◌, arith}
+use Rattle.std.proofs.Common.{replicate, sym, ap, ◌∙◌, arith}
 use Rattle.kind.proofs.Programming.{program-append}
 use Rattle.sealed.specs.Sealed.{made}
 use Rattle.sealed.proofs.tag.SealedTagKind.program.Goals as goal
