@@ -1,9 +1,9 @@
 -- The exits of a reading.
-use Rattle.std.proofs.Common.{◌≡◌, ℕ, ◌%◌, Bool, true, false, eqb, List, [], ◌∷◌, Ok, Err, Result, sym, refl, ap, ◌∙◌, eq-eqb, ne_eqb}
+use Rattle.std.proofs.Common.{◌≡◌, ℕ, ◌%◌, Bool, true, false, List, Ok, Err, Result, sym, refl, ap, ◌∙◌, eq-eqb, ne_eqb}
 use Rattle.rig.specs.Rigs.{RigState}
 use Rattle.rig.specs.Meaning.{Counting}
 use Rattle.rig.specs.declared.fault.RigFault.TheVariants.{LineBusy}
-use Rattle.wire.specs.Jobs.{Job, ret, Ran, run, Said, good, bad, Report, refused_as, reported}
+use Rattle.wire.specs.Jobs.{Job, ret, run, Said, good, Report, refused_as, reported}
 use Rattle.wire.specs.Exchanges.{Exchange, pulses, Told}
 use Rattle.wire.specs.declared.fault.ExchangeFault.{ExchangeFault}
 use Rattle.wire.specs.declared.fault.ExchangeFault.TheVariants.{Rig, Failed}
@@ -11,7 +11,7 @@ use Rattle.wire.proofs.Follows.{follow, told_run}
 use Rattle.reading.specs.declared.fault.ReadFault.{ReadFault}
 use Rattle.reading.specs.declared.fault.ReadFault.TheVariants.{BadRow, Exchange as InExchange}
 use Rattle.reading.specs.Readings.{asks, finds, closes, failed, reading, read_call}
-use Rattle.reading.specs.Meaning.{read_end, read_report, Begun, Read}
+use Rattle.reading.specs.Meaning.{read_end, read_report, Read}
 
 fails : {A : Type 0} (k : A → Job (Said (List ℕ))) {j : Exchange A} {d d' : Counting} {e : ExchangeFault} → Told j d d' (Err e) → run d.steps (pulses j k failed) d.rig ≡ read_end d' (Err (InExchange e))
 fails k {j} {d} {d'} {e} t = told_run k failed t ∙ exits e

@@ -1,7 +1,7 @@
 -- Laws of every reading on every rig.
-use Rattle.std.specs.Prelude.{◌≡◌, ℕ, ◌%◌, ◌^◌, ◌<◌, Bool, true, false, List, ◌∷◌, map, ◌≢◌}
+use Rattle.std.specs.Prelude.{◌≡◌, ℕ, ◌%◌, ◌^◌, ◌<◌, true, false, List, ◌∷◌, map, ◌≢◌}
 use Rattle.kind.specs.Kinds.{row_length}
-use Rattle.chip.specs.Steps.{ChipState, bytes_of}
+use Rattle.chip.specs.Steps.{bytes_of}
 use Rattle.chip.specs.Histories.{MetAll}
 use Rattle.line.specs.Lines.{busy}
 use Rattle.rig.specs.Rigs.{RigState}

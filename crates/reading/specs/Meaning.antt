@@ -4,7 +4,6 @@ use Rattle.rig.specs.Meaning.{Counting}
 use Rattle.rig.specs.declared.fault.RigFault.TheVariants.{LineBusy}
 use Rattle.wire.specs.Jobs.{Ran, done, line_busy, run, Said, good, bad, Report, answered, refused_as}
 use Rattle.wire.specs.Exchanges.{number_of, fault_report}
-use Rattle.wire.specs.declared.fault.ExchangeFault.{ExchangeFault}
 use Rattle.wire.specs.declared.fault.ExchangeFault.TheVariants.{Rig, Failed}
 use Rattle.reading.specs.Readings.{reading}
 use Rattle.reading.specs.declared.fault.ReadFault.{ReadFault}

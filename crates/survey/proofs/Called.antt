@@ -1,5 +1,5 @@
 -- The public survey against the model's call.
-use Rattle.std.proofs.Common.{◌≡◌, ℕ, Bool, true, false, eqb, List, [], Ok, Err, Result, sym, refl, ap, ◌∙◌, eq-eqb, ne_eqb}
+use Rattle.std.proofs.Common.{◌≡◌, ℕ, Bool, true, false, List, [], Ok, Err, Result, sym, refl, ap, ◌∙◌, eq-eqb, ne_eqb}
 use Rattle.rig.specs.Rigs.{RigState}
 use Rattle.wire.specs.Jobs.{Ran, run, Report, refused_as}
 use Rattle.wire.specs.Jobs.{Said}

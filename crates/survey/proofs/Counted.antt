@@ -3,9 +3,9 @@ use Rattle.std.proofs.Common.{◌≡◌, ℕ, zero, suc, ◌+◌, ◌-◌, ◌*�
 use Rattle.std.proofs.lemmas.Bool.{leb-true}
 use Rattle.bits.specs.Bits.{bits_of, value}
 use Rattle.rig.specs.Rigs.{RigState, resets, slots}
-use Rattle.wire.specs.Jobs.{Job, ret, step, Got, done, line_busy, run, Said, good, bad, Report, answered, refused_as}
+use Rattle.wire.specs.Jobs.{Job, ret, step, Got, done, line_busy, run, good, bad, Report, answered, refused_as}
 use Rattle.wire.proofs.Counts.{LeavesAt, GotAt, leaves_at, at-step, at-send}
-use Rattle.survey.specs.Surveys.{Next, over, way, onward, tail_of, chosen, triples, passes, most_places, room_of, listed, survey_call}
+use Rattle.survey.specs.Surveys.{Next, over, way, onward, tail_of, chosen, triples, passes, most_places, room_of, listed}
 use Rattle.survey.specs.Laws.{SurveySteps}
 use Rattle.survey.proofs.Complete.{Out, going, seeks, after_reset}
 

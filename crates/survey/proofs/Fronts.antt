@@ -1,5 +1,5 @@
 -- Whichever step of a survey is cut, what it leaves is a front of the sequence.
-use Rattle.std.proofs.Common.{◌≡◌, ℕ, zero, suc, ◌-◌, Bool, false, List, [], ◌∷◌, ◌++◌, map, sym, ap, ◌∙◌, subst, arith}
+use Rattle.std.proofs.Common.{◌≡◌, ℕ, zero, suc, Bool, false, List, [], ◌∷◌, ◌++◌, map, sym, ap, ◌∙◌, subst, arith}
 use Rattle.bits.specs.Bits.{bits_of, value}
 use Rattle.chip.specs.Chips.{itself}
 use Rattle.chip.specs.Steps.{ChipState, reset_chip}

@@ -23,7 +23,6 @@ use Rattle.survey.specs.Passes.{pass_told}
 use Rattle.survey.specs.Listing.{Surveyed}
 use Rattle.survey.proofs.Walking.{Fits, fits_more}
 use Rattle.survey.proofs.Complete.{Out, going}
-use Rattle.survey.proofs.Unrefused.{busy_first}
 
 module _ {B : Type 0} (lost : Job B) (K : Option (ℕ × ℕ) → Job B) (h0 : K None ≡ lost) where
   forked : (s t : Bool) (q : Job (Option (ℕ × ℕ))) (q' : Job B) → bind q K ≡ q'
@@ -218,7 +217,7 @@ module _ (room : ℕ) (d0 : Counting) (i n w : ℕ) (d : Counting) (l l0 : List 
     }
 
   pub left_fails : {d' : Counting} (f : ExchangeFault) → (d', Err f) ≡ pass_told w (i + 1) d → drop i l ≡ drop i l0 → Untouched d0 d l0 l → Surveyed room d0 d' l0 l (Err (InExchange f))
-  left_fails (Rig LineBusy) e k u = record { so = sym (passed e); later = (u (busy_first d0.steps room 1 [] [] d0.rig (ap (λ (w : Ran Out). w.got) (passed e)))).1; begun = tt }
+  left_fails (Rig LineBusy) e k u = record { so = sym (passed e); later = λ b. (u b).1; begun = tt }
   left_fails {d'} (Failed why x s) e k u =
       let num : x ≡ i + 1 = subst (λ t. Numbered (i + 1) t.1) (sym e) (numbered w (i + 1) d) in
       let back : x - 1 ≡ i = omega arith in

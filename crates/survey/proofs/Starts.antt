@@ -1,15 +1,15 @@
 -- How a pass begins on a line, and what the chips' numbers are as bits.
-use Rattle.std.proofs.Common.{◌≡◌, ℕ, zero, suc, ◌/◌, ◌^◌, ◌<◌, Bool, true, false, ◌&&◌, ◌||◌, ◌⊎◌, List, [], ◌∷◌, ◌++◌, map, take, sym, refl, ap, ◌∙◌, subst, ap₂, inl, inr}
+use Rattle.std.proofs.Common.{◌≡◌, ℕ, zero, suc, ◌/◌, ◌^◌, ◌<◌, Bool, true, false, ◌||◌, List, [], ◌∷◌, ◌++◌, map, take, sym, refl, ap, ◌∙◌, subst, ap₂, inl, inr}
 use Rattle.std.proofs.lemmas.Bool.{true≢false, or_parts, eqb-true}
 use Rattle.bits.specs.Bits.{bits_of, bits_all, value, byte_of}
 use Rattle.bits.proofs.Queues.{value_bits, bytes_append}
 use Rattle.sums.specs.Sums.{crc8, crc_bits, poly8}
 use Rattle.number.specs.Numbers.{Checked, summed, word_bytes}
 use Rattle.memory.specs.Memories.{Memory}
-use Rattle.chip.specs.Chips.{Live, off, on, itself, command, powered}
+use Rattle.chip.specs.Chips.{Live, off, on, itself, powered}
 use Rattle.chip.specs.Steps.{ChipState, has_power, is_busy, reset_chip, takes}
-use Rattle.chip.proofs.Select.{Hears, chip, after_reset, takes-off, hears_off, reset_free}
-use Rattle.chip.proofs.Sound.{Sound, SoundAll}
+use Rattle.chip.proofs.Select.{Hears, after_reset, hears_off, reset_free}
+use Rattle.chip.proofs.Sound.{SoundAll}
 use Rattle.line.specs.Lines.{presence, busy}
 use Rattle.wire.proofs.Leading.{HearsAll, word_bits}
 use Rattle.survey.specs.Laws.{numbers_on, In}

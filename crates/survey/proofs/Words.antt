@@ -1,11 +1,9 @@
 -- Words gathered bit by bit from above.
-use Rattle.std.proofs.Common.{◌≡◌, ℕ, zero, suc, ◌+◌, ◌-◌, ◌*◌, ◌/◌, ◌≤◌, Bool, true, false, cond, not, ◌&&◌, List, [], ◌∷◌, length, Some, None, Option, sym, refl, ap, ◌∙◌, ap₂, arith}
-use mathlib.Core.Path.{fun_ext}
-use Rattle.bits.specs.Bits.{bit, bits_of, value, odd}
-use Rattle.rig.specs.Rigs.{slots}
-use Rattle.wire.specs.Jobs.{Job, ret, step}
-use Rattle.survey.specs.Surveys.{triples, Next, over, way, onward, chosen, tail_of}
-use Rattle.survey.specs.Walks.{shift64, taken, next_by, next_word, walks}
+use Rattle.std.proofs.Common.{◌≡◌, ℕ, zero, suc, ◌+◌, ◌-◌, ◌*◌, ◌/◌, Bool, true, false, List, [], ◌∷◌, length, Some, None, Option, sym, refl, ap, ◌∙◌, arith}
+use Rattle.bits.specs.Bits.{bit, bits_of, value}
+use Rattle.wire.specs.Jobs.{Job, ret}
+use Rattle.survey.specs.Surveys.{triples, Next, over, way, onward}
+use Rattle.survey.specs.Walks.{shift64, next_by}
 
 abbrev pub dbl : ℕ → ℕ → ℕ
 dbl zero y = y

@@ -5,7 +5,7 @@ use Rattle.chip.specs.Steps.{ChipState, has_power, bytes_of}
 use Rattle.chip.specs.Histories.{MetAll}
 use Rattle.line.specs.Lines.{busy}
 use Rattle.rig.specs.Rigs.{RigState}
-use Rattle.wire.specs.Jobs.{Report, answered, refused_as}
+use Rattle.wire.specs.Jobs.{answered, refused_as}
 use Rattle.wire.specs.Laws.{Uncut}
 use Rattle.survey.specs.Surveys.{passes, room_of, survey_call}
 

@@ -1,7 +1,7 @@
 -- The numbers on a line, listed in lent places.
-use Rattle.std.specs.Prelude.{◌≡◌, ℕ, ◌-◌, Bool, true, List, [], ◌∷◌, take, drop, Ok, Err, Result}
+use Rattle.std.specs.Prelude.{◌≡◌, ℕ, ◌-◌, Bool, true, List, [], take, drop, Ok, Err, Result}
 use Rattle.line.specs.Lines.{busy}
-use Rattle.wire.specs.Jobs.{Ran, Got, done, line_busy, run}
+use Rattle.wire.specs.Jobs.{Ran, done, line_busy, run}
 use Rattle.wire.specs.Jobs.{Said, good, bad, Report, answered, refused_as}
 use Rattle.survey.specs.Surveys.{passes}
 use Rattle.rig.specs.Meaning.{Counting}

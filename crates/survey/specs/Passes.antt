@@ -1,5 +1,5 @@
 -- One pass on a rig at work.
-use Rattle.std.specs.Prelude.{ℕ, Bool, true, false, cond, List, [], ◌∷◌, Some, None, Ok, Err, Option, Result}
+use Rattle.std.specs.Prelude.{ℕ, cond, [], ◌∷◌, Some, None, Ok, Err, Result}
 use Rattle.rig.specs.Rigs.{resets}
 use Rattle.rig.specs.Meaning.{Counting, beat}
 use Rattle.wire.specs.Wires.{does, sends, onward}

@@ -2,7 +2,7 @@
 use Rattle.std.specs.Prelude.{ℕ, zero, suc, ◌-◌, Bool, true, false, not, ◌&&◌, List, [], ◌∷◌, ◌++◌, ◌==◌, nat_le}
 use Rattle.bits.specs.Bits.{value}
 use Rattle.rig.specs.Rigs.{RigState, resets, slots}
-use Rattle.wire.specs.Jobs.{Job, ret, step, Got, done, line_busy, Ran, run, Said, good, bad, Report, refused_as, report_of, send_bytes}
+use Rattle.wire.specs.Jobs.{Job, ret, step, Got, done, line_busy, run, Said, good, bad, Report, refused_as, report_of, send_bytes}
 
 -- at most so many places are filled
 abbrev pub most_places : ℕ

@@ -1,5 +1,5 @@
 -- One pass along a way.
-use Rattle.std.specs.Prelude.{ℕ, zero, suc, ◌+◌, ◌*◌, ◌/◌, Bool, true, false, cond, List, [], ◌∷◌, Some, None, Option}
+use Rattle.std.specs.Prelude.{ℕ, ◌+◌, ◌*◌, ◌/◌, Bool, true, false, cond, Some, None, Option}
 use Rattle.bits.specs.Bits.{bit, bits_of, value}
 use Rattle.wire.specs.Jobs.{Job, ret}
 use Rattle.survey.specs.Surveys.{triples, Next, over, way}

@@ -1,10 +1,9 @@
 -- Jobs in sequence: what a contract of a part of a job needs.
-use Rattle.std.proofs.Common.{◌≡◌, ℕ, zero, suc, Bool, true, false, List, [], ◌∷◌, ◌++◌, sym, refl, ap, ◌∙◌, subst, ap₂}
+use Rattle.std.proofs.Common.{◌≡◌, ℕ, zero, suc, Bool, true, false, List, [], ◌∷◌, sym, refl, ap, ◌∙◌}
 use mathlib.Core.Path.{fun_ext}
-use Rattle.rig.specs.Rigs.{counted, RigState, Pulse, slots, pulse, refused}
+use Rattle.rig.specs.Rigs.{counted, RigState, slots, pulse, refused}
 use Rattle.wire.specs.Jobs.{Job, ret, step, Ran, Got, done, line_busy, run}
-use Rattle.wire.specs.Jobs.{send_bits, read_bits, read_bytes}
-use Rattle.bits.specs.Bits.{value}
+use Rattle.wire.specs.Jobs.{send_bits, read_bits}
 
 abbrev pub bind : {A B : Type 0} → Job A → (A → Job B) → Job B
 bind (ret a) f = f a

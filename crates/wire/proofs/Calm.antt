@@ -20,7 +20,7 @@ use Rattle.wire.specs.Jobs.{Job, ret, step, Got, done, line_busy, Ran, run, Said
 use Rattle.wire.specs.Exchanges.{Exchange, answer as answers, refuse, opening, closing, dwelling, send, read, pulses}
 use Rattle.wire.specs.declared.fault.Why.{Why}
 use Rattle.wire.specs.declared.fault.Why.TheVariants.{NoPresence}
-use Rattle.wire.proofs.Leading.{free, HearsAll, hears_pull, hears_busy, hears_on, map-takes, map-none, WideAll, after_opening, sent-number, opened_hear, opened_take}
+use Rattle.wire.proofs.Leading.{HearsAll, hears_pull, hears_busy, hears_on, map-takes, map-none, WideAll, after_opening, sent-number, opened_hear, opened_take}
 use Rattle.wire.proofs.Power.{run_dead, on_step}
 
 -- 1. no byte changes

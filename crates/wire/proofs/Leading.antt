@@ -1,19 +1,16 @@
 -- Jobs on a line with no fuse: bits that every chip hears, and how an exchange opens.
-use Rattle.std.proofs.Common.{◌≡◌, ℕ, zero, suc, ◌+◌, ◌*◌, ◌/◌, ◌%◌, ◌^◌, ◌<◌, Bool, true, false, not, ◌&&◌, ◌||◌, List, [], ◌∷◌, ◌++◌, map, sym, refl, ap, ◌∙◌, subst, ap₂, append-nil, arith, pow-add}
-use mathlib.Core.Bool.{and-true, or-true}
+use Rattle.std.proofs.Common.{◌≡◌, ℕ, zero, suc, ◌+◌, ◌*◌, ◌/◌, ◌%◌, ◌^◌, ◌<◌, Bool, true, false, ◌&&◌, ◌||◌, List, [], ◌∷◌, ◌++◌, map, sym, refl, ap, ◌∙◌, subst, ap₂, arith, pow-add}
+use mathlib.Core.Bool.{and-true}
 use native.Mathlib.Nat.{div-div-eq-div-mul}
 use Rattle.std.proofs.lemmas.Bool.{or_parts}
 use Rattle.bits.specs.Bits.{bits_of, bits_all, byte_of}
 use Rattle.bits.proofs.Queues.{bits_block}
 use Rattle.number.specs.Numbers.{word_bytes}
-use Rattle.chip.specs.Steps.{ChipState, has_power, is_busy, pull_of, take_bit, reset_chip, takes, opened_by}
+use Rattle.chip.specs.Steps.{ChipState, take_bit, reset_chip, takes, opened_by}
 use Rattle.chip.proofs.Select.{Hears, select_hears, select-takes}
 use Rattle.line.specs.Lines.{presence, pull, busy}
-use Rattle.rig.specs.Rigs.{RigState, none, Pulse, resets, slots, dwells, act, answer, refused, counted}
-use Rattle.wire.specs.Jobs.{Job, ret, step, Ran, line_busy, run, send_bits, send_bytes}
-use Rattle.wire.specs.Exchanges.{Exchange, opening, pulses}
-use Rattle.wire.specs.declared.fault.Why.{Why}
-use Rattle.wire.specs.declared.fault.Why.TheVariants.{NoPresence}
+use Rattle.rig.specs.Rigs.{RigState, none, Pulse, resets, slots, act, answer, refused, counted}
+use Rattle.wire.specs.Jobs.{Job, step, Ran, line_busy, run, send_bits, send_bytes}
 
 -- the rig with no fuse
 abbrev pub free : List ChipState → RigState

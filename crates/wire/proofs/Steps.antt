@@ -1,15 +1,15 @@
 -- How programs of pulses go on.
-use Rattle.std.proofs.Common.{◌≡◌, ℕ, zero, suc, ◌+◌, ◌*◌, ◌/◌, ◌≤◌, Bool, true, false, List, [], ◌∷◌, ◌++◌, Ok, Err, Result, sym, refl, ap, ◌∙◌, append_assoc, arith}
+use Rattle.std.proofs.Common.{◌≡◌, ℕ, zero, suc, ◌≤◌, Bool, true, false, List, [], ◌∷◌, ◌++◌, Ok, Err, Result, sym, refl, ap, ◌∙◌, append_assoc, arith}
 use mathlib.Core.Path.{fun_ext}
-use Rattle.bits.specs.Bits.{bit, bits_of, value}
+use Rattle.bits.specs.Bits.{bit, value}
 use Rattle.rig.specs.Rigs.{RigState, Pulse, slots, pulse, refused, counted}
 use Rattle.wire.specs.Jobs.{Job, ret, step, Ran, Got, done, line_busy, run}
-use Rattle.wire.specs.Jobs.{send_bits, read_bits, read_bytes}
+use Rattle.wire.specs.Jobs.{read_bytes}
 use Rattle.wire.proofs.Bind.{bind, run_bind, onward as after}
 use Rattle.rig.specs.Meaning.{Counting, beat}
 use Rattle.rig.specs.declared.fault.RigFault.{RigFault}
 use Rattle.rig.specs.declared.fault.RigFault.TheVariants.{LineBusy}
-use Rattle.wire.specs.Wires.{outcome, does, onward, onwards, keep, sends, reads, reads_byte, shift_in}
+use Rattle.wire.specs.Wires.{outcome, does, onward, keep, sends, reads_byte, shift_in}
 
 pub does-ret : {A : Type 0} (a : A) (d : Counting) → does (ret a) d ≡ (d, Ok a)
 unfolding does

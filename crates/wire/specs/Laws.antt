@@ -1,8 +1,8 @@
 -- Words for laws of jobs: the moments of a job, the tag with a number, its power and its bytes.
 use Rattle.std.specs.Prelude.{◌≡◌, ℕ, zero, suc, Bool, true, false, ◌&&◌, ◌||◌, ◌≢◌, List, [], ◌∷◌, ◌++◌, drop, ◌==◌}
 use Rattle.kind.specs.Kinds.{row_length}
-use Rattle.chip.specs.Steps.{ChipState, has_power, bytes_of}
-use Rattle.rig.specs.Rigs.{RigState, FuseState, none, after, Pulse, pulse, refused}
+use Rattle.chip.specs.Steps.{ChipState, has_power}
+use Rattle.rig.specs.Rigs.{RigState, FuseState, none, after, pulse, refused}
 use Rattle.wire.specs.Jobs.{Job, ret, step}
 
 -- the rig after each step of a job

@@ -4,8 +4,8 @@ use Rattle.chip.specs.Chips.{off, on, idle}
 use Rattle.chip.specs.Steps.{ChipState, has_power, is_busy, pull_of, take_bit, cut_chip, opened_by}
 use Rattle.chip.specs.Histories.{MetAll}
 use Rattle.line.specs.Lines.{presence, pull, busy}
-use Rattle.rig.specs.Rigs.{RigState, none, Pulse, act, answer, deaf, refused}
-use Rattle.wire.specs.Jobs.{Job, ret, Got, done, Ran, run}
+use Rattle.rig.specs.Rigs.{none, Pulse, act, answer, deaf, refused}
+use Rattle.wire.specs.Jobs.{ret, done, Ran, run}
 use Rattle.wire.specs.Exchanges.{answer as answers, opening, pulses}
 
 -- without power or idle

@@ -1,8 +1,8 @@
 -- A program of pulses on a rig at work, and the bytes that it sends and reads.
-use Rattle.std.specs.Prelude.{ℕ, zero, suc, ◌+◌, ◌*◌, ◌/◌, Bool, true, false, List, [], ◌∷◌, ◌++◌, Ok, Err, Result}
-use Rattle.bits.specs.Bits.{bit, bits_of, value}
-use Rattle.wire.specs.Jobs.{Job, ret, step, Ran, Got, done, line_busy, run}
-use Rattle.wire.specs.Jobs.{send_bits, read_bits, send_bytes, read_bytes}
+use Rattle.std.specs.Prelude.{ℕ, ◌+◌, ◌*◌, ◌/◌, Bool, List, Ok, Err, Result}
+use Rattle.bits.specs.Bits.{bit, value}
+use Rattle.wire.specs.Jobs.{Job, ret, Ran, Got, done, line_busy, run}
+use Rattle.wire.specs.Jobs.{read_bits, send_bytes, read_bytes}
 use Rattle.rig.specs.Meaning.{Counting}
 use Rattle.rig.specs.declared.fault.RigFault.{RigFault}
 use Rattle.rig.specs.declared.fault.RigFault.TheVariants.{LineBusy}

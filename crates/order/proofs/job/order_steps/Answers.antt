@@ -18,4 +18,4 @@ returns-in-Some g c =
     (differing c.args.number.word c.args.row c.args.new.now c.in_ok-load.ensures c.in_ok-loaded.ensures c.in-Some.index c.in-Some.ensures)
 
 pub returns : goal.returns
-returns g c = going c.args.number.word c.args.row c.args.new.now c.in_ok-load.ensures c.in_ok-loaded.ensures c.in-default.ensures c.conclude.ensures
+returns g c = going c.args.number.word c.args.row c.args.new.now c.in_ok-load.ensures c.in_ok-loaded.ensures c.in_default.ensures c.conclude.ensures

@@ -1,9 +1,8 @@
-use Rattle.std.proofs.Common.{◌≡◌, ℕ, suc, ◌+◌, ◌-◌, true, Some, sym, ap, ◌∙◌, arith}
+use Rattle.std.proofs.Common.{◌≡◌, suc, ◌-◌, Some, sym, ap, ◌∙◌, arith}
 use Rattle.std.proofs.lemmas.Result.{err_from_is_err_and}
 use Rattle.rig.specs.Meaning.{counting}
 use Rattle.wire.specs.Wires.{does}
 use Rattle.wire.proofs.Steps.{does-ret}
-use Rattle.survey.proofs.Words.{walk_rest}
 use Rattle.survey.proofs.Walking.{walk_start, walk_err1, walk_err2, walk_err3, walk_lost, walk_more}
 use Rattle.survey.proofs.walk.walk.Goals as goal
 
