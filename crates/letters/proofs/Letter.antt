@@ -1,8 +1,7 @@
 -- Letters played so far.
-use Rattle.std.proofs.Common.{◌≡◌, ℕ, ◌+◌, ◌<◌, List, [], ◌∷◌, map, length, get_or, take, set, sym, refl, ap, ◌∙◌}
+use Rattle.std.proofs.Common.{◌≡◌, ℕ, ◌+◌, ◌<◌, List, length, get_or, take, set, sym, ap, ◌∙◌}
 use Rattle.std.proofs.lemmas.List.{map-id}
 use Rattle.rig.specs.Rigs.{RigState}
-use Rattle.history.specs.Calls.{run_all}
 use Rattle.history.proofs.Runs.{turn}
 use Rattle.letters.specs.Letters.{script, script_all}
 

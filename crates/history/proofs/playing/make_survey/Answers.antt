@@ -1,4 +1,4 @@
-use Rattle.std.proofs.Common.{◌≡◌, ℕ, min, length, take, drop, replicate, ◌∙◌, arith, length-take}
+use Rattle.std.proofs.Common.{◌≡◌, ℕ, min, length, take, replicate, ◌∙◌, arith, length-take}
 use Rattle.rig.specs.Meaning.{rig_of}
 use Rattle.history.proofs.Lent.{lent_told}
 use Rattle.history.proofs.playing.make_survey.Goals as goal
