@@ -1,3 +1,5 @@
+#![tactic(auto)]
+
 mod crowd;
 mod jobs;
 mod kept;

@@ -1,3 +1,5 @@
 // A chip: its power, and the commands on its number.
+#![tactic(auto)]
+
 pub mod device;
 pub mod phase;

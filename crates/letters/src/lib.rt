@@ -1,2 +1,4 @@
 // The letters of the script program.
+#![tactic(auto)]
+
 pub mod script;

@@ -1,2 +1,4 @@
 // Registration numbers of 1-Wire chips.
+#![tactic(auto)]
+
 pub mod registration;

@@ -1,2 +1,4 @@
 // The practice plug.
+#![tactic(auto)]
+
 pub mod practice;

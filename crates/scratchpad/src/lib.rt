@@ -1,3 +1,5 @@
 // The scratchpad protocol, for any kind of tag.
+#![tactic(auto)]
+
 pub mod pad;
 pub mod phase;

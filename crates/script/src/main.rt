@@ -1,3 +1,5 @@
+#![tactic(auto)]
+
 use anyhow::anyhow;
 use kind::tags::Kind;
 use letters::script::play_letters;

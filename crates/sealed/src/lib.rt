@@ -1,2 +1,4 @@
 // The sealed tag of a gearbox.
+#![tactic(auto)]
+
 pub mod tag;

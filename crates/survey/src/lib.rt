@@ -1,4 +1,6 @@
 // The numbers on a line.
+#![tactic(auto)]
+
 pub mod fault;
 pub mod listing;
 pub mod pass;

@@ -1,3 +1,5 @@
+#![tactic(auto)]
+
 mod asked;
 mod lines;
 mod many;

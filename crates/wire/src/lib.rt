@@ -1,4 +1,6 @@
 // Bytes and exchanges over a rig.
+#![tactic(auto)]
+
 pub mod bytes;
 pub mod fault;
 pub mod opening;

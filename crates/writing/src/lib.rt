@@ -1,3 +1,5 @@
 // The exchanges that write a row.
+#![tactic(auto)]
+
 pub mod differences;
 pub mod exchanges;
