@@ -7,9 +7,9 @@ use Rattle.history.specs.Edges.{EdgeRuns}
 pub edge_runs : EdgeRuns
 unfolding crc8 first_difference
 edge_runs = record {
-  order-held = refl;
+  order_held = refl;
   order_held_row = refl;
-  cut-at-dwell = refl;
+  cut_at_dwell = refl;
   cut_at_dwell_row = refl;
   cut_at_close = λ mask. refl;
   cut_at_close_row = λ mask. refl;
@@ -17,8 +17,8 @@ edge_runs = record {
   eprom_rises_row = refl;
   eprom_falls = refl;
   eprom_falls_row = refl;
-  protected-same = refl;
-  protected-locked = refl;
+  protected_same = refl;
+  protected_and_locked = refl;
   past_same = refl;
   past_other = refl;
   no_row = refl;

@@ -60,10 +60,10 @@ cut_at count mask = power_up ∷ fuse count mask ∷ order zero_number 0x20 coun
 
 pub record EdgeRuns : Type 0 where
   -- an order that is held takes 638 steps
-  pub order-held : replies (power_up ∷ order zero_number 0x20 counting ∷ []) (alone zeros) ≡ done ∷ judged_as (holds true 638) ∷ []
+  pub order_held : replies (power_up ∷ order zero_number 0x20 counting ∷ []) (alone zeros) ≡ done ∷ judged_as (holds true 638) ∷ []
   pub order_held_row : row_after (power_up ∷ order zero_number 0x20 counting ∷ []) (alone zeros) ≡ counting
   -- power fails at the dwell, and no bit is programmed: refusal 5 in exchange 4, the row as it was
-  pub cut-at-dwell : replies (cut_at 467 0) (alone zeros) ≡ done ∷ done ∷ judged_as (refuses 5 4 477) ∷ []
+  pub cut_at_dwell : replies (cut_at 467 0) (alone zeros) ≡ done ∷ done ∷ judged_as (refuses 5 4 477) ∷ []
   pub cut_at_dwell_row : row_after (cut_at 467 0) (alone zeros) ≡ eight 0
   -- power fails at the closing reset: refusal 5 in exchange 5 although the row is new, whatever the mask
   pub cut_at_close : (mask : ℕ) → replies (cut_at 637 mask) (alone zeros) ≡ done ∷ done ∷ judged_as (refuses 5 5 638) ∷ []
@@ -74,8 +74,8 @@ pub record EdgeRuns : Type 0 where
   pub eprom_falls : replies (power_up ∷ order zero_number 0x20 (eight 0x70) ∷ []) (alone eprom_page) ≡ done ∷ judged_as (holds true 638) ∷ []
   pub eprom_falls_row : row_after (power_up ∷ order zero_number 0x20 (eight 0x70) ∷ []) (alone eprom_page) ≡ eight 0x70
   -- a write-protected row ordered as it is: held, and programmed unless 84h is locked
-  pub protected-same : replies (power_up ∷ order zero_number 0x20 (eight 0) ∷ []) (alone protected_page) ≡ done ∷ judged_as (holds true 638) ∷ []
-  pub protected-locked : replies (power_up ∷ order zero_number 0x20 (eight 0) ∷ []) (alone protected_locked) ≡ done ∷ judged_as (holds false 638) ∷ []
+  pub protected_same : replies (power_up ∷ order zero_number 0x20 (eight 0) ∷ []) (alone protected_page) ≡ done ∷ judged_as (holds true 638) ∷ []
+  pub protected_and_locked : replies (power_up ∷ order zero_number 0x20 (eight 0) ∷ []) (alone protected_locked) ≡ done ∷ judged_as (holds false 638) ∷ []
   -- row 88h reads FFh and is never programmed: FFh is held, 00h is found to differ at index 0
   pub past_same : replies (power_up ∷ order zero_number 0x88 (eight 0xFF) ∷ []) (alone zeros) ≡ done ∷ judged_as (holds false 638) ∷ []
   pub past_other : replies (power_up ∷ order zero_number 0x88 (eight 0) ∷ []) (alone zeros) ≡ done ∷ judged_as (refuses_at 8 5 0 638) ∷ []

@@ -38,7 +38,7 @@ pub record Lawful (K : Rules) : Type 0 where
   pub load_past : (m : List ℕ) (a x : ℕ) → K.w ≤ a → K.load m a x ≡ x
   pub copy_past : (m : List ℕ) (row : ℕ) → K.w ≤ row → K.copy m row ≡ false
   -- loading a byte that the address already holds answers that byte
-  pub load-held : (m : List ℕ) (a : ℕ) → length m ≡ K.n → K.load m a (at m a) ≡ at m a
+  pub load_held : (m : List ℕ) (a : ℕ) → length m ≡ K.n → K.load m a (at m a) ≡ at m a
 
 -- every byte b at address a becomes f a b
 abbrev pub edit : ℕ → (ℕ → ℕ → ℕ) → List ℕ → List ℕ

@@ -40,7 +40,7 @@ module _ (K : Rules) (m : List ℕ) where
       first =
           let e : a + 0 ≡ a = omega arith in
           let here : d ≡ at m a = h 0 (omega arith) ∙ ap (at m) e in
-          ap (K.load m a) here ∙ law.load-held m a whole ∙ sym here
+          ap (K.load m a) here ∙ law.load_held m a whole ∙ sym here
 
       rest : (i : ℕ) → i < length ds → at ds i ≡ at m (a + 1 + i)
       rest i l = let e : a + suc i ≡ a + 1 + i = omega arith in h (suc i) (omega arith) ∙ ap (at m) e

@@ -1,1 +1,2 @@
 pub mod Plug
+pub mod Laws

@@ -1,5 +1,5 @@
+ghost use Rattle.plug.specs.Laws.{plug_lawful};
 ghost use Rattle.plug.specs.Plug.{plug};
-ghost use Rattle.std.proofs.Common.{rules};
 
 use kind::fault::ImageFault;
 use kind::image::Image;
@@ -23,11 +23,11 @@ impl Kind for PracticePlug {
 
     ghost bytes = { λ p. p.image.bytes };
 
-    ghost lawful = { Prim.search rules };
+    ghost lawful = { plug_lawful };
 
-    ghost whole = { Prim.search rules };
+    ghost whole = { λ p. p.image.whole };
 
-    ghost small = { Prim.search rules };
+    ghost small = { λ p. p.image.small };
 
     fn readable() -> usize {
         Self::N

@@ -1,8 +1,6 @@
-ghost use Rattle.std.specs.Prelude.{◌≡◌, refl};
+ghost use Rattle.std.specs.Prelude.{◌≡◌};
 ghost use Rattle.sealed.specs.Sealed.{sealed, made, locked, control};
-ghost use Rattle.std.proofs.Common.{arith, length-append, rules};
-ghost use Rattle.std.proofs.lemmas.Bool.Decides.{nat_tests};
-ghost use Rattle.sealed.specs.Registers.{bytes_made, load_byte, load-held};
+ghost use Rattle.sealed.specs.Registers.{sealed_lawful, made_length, bytes_made};
 
 use kind::fault::ImageFault;
 use kind::image::Image;
@@ -52,21 +50,9 @@ impl Kind for SealedTag {
 
     ghost bytes = { λ t. made t.image.bytes };
 
-    ghost lawful = { record {
-      n_rows = refl;
-      w_rows = refl;
-      w_some = Prim.search rules;
-      w_in = Prim.search rules;
-      n_in = Prim.search rules;
-      made_whole = λ m h. simp length-append (omega arith);
-      made_bytes = bytes_made;
-      load_byte = load_byte;
-      load_past = λ m a x h. Prim.grind (arith, nat_tests);
-      copy_past = λ m row h. Prim.grind (arith, nat_tests);
-      load-held = λ m a _. load-held m a;
-    } };
+    ghost lawful = { sealed_lawful };
 
-    ghost whole = { λ k. simp length-append (omega (arith, k.image.whole)) };
+    ghost whole = { λ k. made_length k.image.bytes k.image.whole };
 
     ghost small = { λ k. bytes_made k.image.bytes k.image.small };
 
