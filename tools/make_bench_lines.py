@@ -1,38 +1,24 @@
 """Prints what the bench program must write, from the plain model alone.
 
-First one whole task on a sealed tag by pulses; then the two jobs of a master,
-the reading of a row and the search for all numbers, written here a second
-time and run on the model's rig.  Bytes are in hex, in the sequence of their
-travel.
+First one whole task on a sealed tag by pulses; then two jobs of a master, the
+reading of a row and the search for all numbers, run on the model's rig.  Bytes
+are in hex, in the sequence of their travel.
 
     python3 tools/make_bench_lines.py > crates/bench/stdout
 """
 
+from master_jobs import (
+    JobRefused, MOST_PASSES, read, reading, search, spaced)
 from onewire_model import (
-    Chip, FULL_MASK, LINE_BUSY, PracticePlug, Refusal, RegistrationNumber, Rig,
-    ROW_LENGTH, SealedTag, bits_of_bytes, bytes_of_bits, crc8, crc16, joint,
-    one_tag, open_clip, refusal_of)
+    Chip, FULL_MASK, LINE_BUSY, PracticePlug, Refusal, RegistrationNumber,
+    Rig, SealedTag, bits_of_bytes, crc8, crc16, joint, one_tag, open_clip,
+    refusal_of)
 
 NUMBER = bytes.fromhex("2D47360000000161")
 WRONG_NUMBER = bytes.fromhex("2D47360000000162")
 DATA = bytes.fromhex("125A03E80BB80064")
 TARGET = bytes([0x40, 0x00])          # low byte first
 IMAGE = b"\xFF" * 136
-
-
-def spaced(data):
-    return bytes(data).hex(" ").upper()
-
-
-def send(rig, data):
-    """Send bytes, whatever the line makes of them."""
-    for bit in bits_of_bytes(data):
-        rig.slot(bit)
-
-
-def read(rig, count):
-    """Read bytes: the master sends ones and looks at the line."""
-    return bytes_of_bits([rig.slot(1) for _ in range(8 * count)])
 
 
 # ---------------------------------------------------------------------------
@@ -132,81 +118,6 @@ def task_lines():
 
 # ---------------------------------------------------------------------------
 # The two jobs
-
-BAD_ROW = 4                       # the refusals of the jobs, by their numbers
-NO_PRESENCE = 5
-GARBLED = 6
-NO_ROOM = 9
-
-MOST_PASSES = 64
-
-
-class JobRefused(Exception):
-    """A job ended early, in an exchange or pass, after so many steps."""
-
-    def __init__(self, number, exchange, steps):
-        super().__init__(f"refusal {number}")
-        self.number = number
-        self.exchange = exchange
-        self.steps = steps
-
-
-def presence_or_refusal(rig, exchange):
-    if not rig.reset():
-        raise JobRefused(NO_PRESENCE, exchange, rig.steps)
-
-
-def reading(rig, number, row):
-    """The eight bytes of a row, in three exchanges."""
-    if row % ROW_LENGTH:
-        raise JobRefused(BAD_ROW, 0, 0)
-    rig.zero_counters()
-    presence_or_refusal(rig, 1)
-    send(rig, b"\x55" + number + b"\xAA")
-    if read(rig, 3) == b"\xFF\xFF\xFF":
-        raise JobRefused(GARBLED, 1, rig.steps)
-    presence_or_refusal(rig, 2)
-    send(rig, b"\x55" + number + b"\xF0" + row.to_bytes(2, "little"))
-    found = read(rig, ROW_LENGTH)
-    presence_or_refusal(rig, 3)
-    return found
-
-
-def one_pass(rig, count, forced):
-    """Follow the forced bits, then take 0 wherever both occur.
-
-    Answers the bits taken and the places where there was a choice.
-    """
-    presence_or_refusal(rig, count)
-    send(rig, b"\xF0")
-    taken, forks = [], []
-    while len(taken) < 64:
-        bit, opposite = rig.slot(1), rig.slot(1)
-        if bit and opposite:
-            raise JobRefused(GARBLED, count, rig.steps)
-        if bit == opposite:
-            forks.append(len(taken))
-            bit = forced[len(taken)] if len(taken) < len(forced) else 0
-        rig.slot(bit)
-        taken.append(bit)
-    return taken, forks
-
-
-def search(rig, room, found):
-    """Append the numbers on the line to a list, a pass for each."""
-    if room == 0:
-        raise JobRefused(NO_ROOM, 0, 0)
-    rig.zero_counters()
-    passes = min(room, MOST_PASSES)
-    forced = []
-    for count in range(1, passes + 1):
-        taken, forks = one_pass(rig, count, forced)
-        found.append(bytes_of_bits(taken))
-        zeros = [place for place in forks if taken[place] == 0]
-        if not zeros:
-            return
-        forced = taken[:zeros[-1]] + [1]
-    raise JobRefused(NO_ROOM, passes, rig.steps)
 
 
 def refusal_words(refused, unit):

@@ -1,9 +1,6 @@
 -- A chip with a memory of any protocol: its questions and its steps.
 use Rattle.std.specs.Prelude.{ℕ, Bool, true, false, List, [], ◌∷◌, ◌==◌}
-use Rattle.kind.specs.Kinds.{Rules}
-use Rattle.memory.specs.Scratchpads.{fresh}
-use Rattle.memory.specs.Scratchpads.{on as doing, idle as resting}
-use Rattle.memory.specs.Memories.{Memory, padded, protocols, begin_memory, bytes_in}
+use Rattle.memory.specs.Memories.{Memory, protocols, begin_memory, bytes_in}
 use Rattle.chip.specs.Chips.{ChipOver, Live, powered, off, on, idle, selected, taken, busy, pulled, reset, dwelt, cut, powered_up}
 
 abbrev pub ChipState : Type 0
@@ -12,10 +9,6 @@ ChipState = ChipOver Memory
 -- a chip as it is made: without power
 abbrev pub made_chip : ℕ → Memory → ChipState
 made_chip number memory = record { number = number; live = off; memory = memory }
-
--- a tag of the scratchpad protocol as it is made: its number, its kind, the bytes of its image, no power
-abbrev pub made_tag : Rules → ℕ → List ℕ → ChipState
-made_tag K number image = made_chip number (padded (record { rules = K; bytes = K.made image; work = doing fresh resting }))
 
 -- its bytes
 abbrev pub bytes_of : ChipState → List ℕ

@@ -2,7 +2,8 @@
 use Rattle.std.specs.Prelude.{◌≡◌, ℕ, true, false, List, [], ◌∷◌, ◌++◌, replicate, slice_set}
 use Rattle.number.specs.Numbers.{making, number, refused}
 use Rattle.sealed.specs.Sealed.{sealed}
-use Rattle.chip.specs.Steps.{ChipState, made_tag, bytes_of}
+use Rattle.chip.specs.Steps.{ChipState, bytes_of}
+use Rattle.tag.specs.Tags.{made_tag}
 use Rattle.rig.specs.Rigs.{RigState, made_rig}
 use Rattle.wire.specs.Jobs.{answered}
 use Rattle.wire.specs.Laws.{row_in}

@@ -1,8 +1,8 @@
 -- What the calls and answers of the code mean.
 use Rattle.rig.specs.Meaning.{refusal}
-use Rattle.std.specs.Prelude.{Ok, Err}
+use Rattle.std.specs.Prelude.{Ok, Err, []}
 use Rattle.wire.specs.Jobs.{answered}
-use Rattle.reading.specs.Meaning.{read_refusal}
+use Rattle.reading.specs.Meaning.{read_report}
 use Rattle.survey.specs.Listing.{survey_answer}
 use Rattle.order.specs.Meaning.{order_verdict}
 use Rattle.history.specs.Calls.{Request, reset, slot, dwell, cut, power_up, fuse, survey, read, order, Reply, presence_is, bit_is, done, refused_with, listed, row_is, judged_as}
@@ -29,5 +29,5 @@ reply_of Done = done
 reply_of (Refused f) = refused_with (refusal f)
 reply_of (Listed outcome places) = listed (survey_answer outcome places)
 reply_of (Row (Ok a)) = row_is (answered a.0 a.1)
-reply_of (Row (Err f)) = row_is (read_refusal f)
+reply_of (Row (Err f)) = row_is (read_report (Err f) [])
 reply_of (Judged outcome) = judged_as (order_verdict outcome)

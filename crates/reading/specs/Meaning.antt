@@ -9,11 +9,6 @@ use Rattle.reading.specs.Readings.{reading}
 use Rattle.reading.specs.declared.fault.ReadFault.{ReadFault}
 use Rattle.reading.specs.declared.fault.ReadFault.TheVariants.{BadRow, Exchange as InExchange}
 
--- what a reading's fault says
-abbrev pub read_refusal : ReadFault → Report (List ℕ)
-read_refusal BadRow = refused_as 4 0 0
-read_refusal (InExchange f) = fault_report f
-
 -- what a reading's answer says, with the caller's row
 abbrev pub read_report : Result ℕ ReadFault → List ℕ → Report (List ℕ)
 read_report (Ok s) l = answered l s
