@@ -1,9 +1,8 @@
 -- Lists of calls.
-use Rattle.std.proofs.Common.{◌≡◌, ℕ, zero, suc, arith, ◌+◌, ◌<◌, List, [], ◌∷◌, ◌++◌, map, length, get_or, take, drop, set, sym, refl, ap, ◌∙◌}
+use Rattle.std.proofs.Common.{◌≡◌, ℕ, ◌+◌, ◌<◌, List, [], ◌∷◌, ◌++◌, map, length, get_or, take, drop, set, sym, refl, ap, ◌∙◌}
 use Rattle.std.proofs.lemmas.List.{take_more, take_more_set, map_push, drop-drop}
 use Rattle.rig.specs.Rigs.{RigState}
 use Rattle.history.specs.declared.calls.Call.{Call}
-use Rattle.history.specs.declared.calls.Call.TheVariants.{Reset}
 use Rattle.history.specs.declared.calls.Answer.{Answer}
 use Rattle.history.specs.Meaning.{request_of, reply_of}
 use Rattle.history.specs.Calls.{Reply, run_all, serve, serve_all}
@@ -42,9 +41,3 @@ Played s n answers calls r = ◌≡◌ {A = RigState × List Reply} (s, map repl
 pub played_more : (calls : List Call) (answers : List Answer) (i : ℕ) (q : Call) (a : Answer) (r s t : RigState) → i < length calls → i < length answers
     → Played s i answers calls r → ◌≡◌ {A = RigState × Reply} (t, reply_of a) (serve (request_of q) s) → q ≡ get_or calls i q → Played t (i + 1) (set answers i a) calls r
 played_more calls answers i q a r s t hc ha before one at = turn serve request_of reply_of calls answers i q a r s t hc ha before (one ∙ ap (λ c. serve (request_of c) s) at)
-
--- within a list no default is read
-pub at_any : (calls : List Call) (i : ℕ) (d : Call) → i < length calls → get_or calls i d ≡ get_or calls i Reset
-at_any [] i d h = absurd (omega arith)
-at_any (q ∷ qs) zero d h = refl
-at_any (q ∷ qs) (suc i) d h = at_any qs i d (omega arith)

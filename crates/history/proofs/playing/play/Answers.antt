@@ -1,11 +1,11 @@
 use Rattle.std.proofs.Common.{◌≡◌, ◌+◌, ◌<◌, get_or, List, map, length, take, drop, sym, ap, ◌∙◌, subst, arith}
-use Rattle.std.proofs.lemmas.List.{drop-set-lt}
+use Rattle.std.proofs.lemmas.List.{drop-set-lt, get_or_default}
 use Rattle.rig.specs.Rigs.{RigState}
 use Rattle.rig.specs.Meaning.{rig_of}
 use Rattle.history.specs.Calls.{Reply, serve}
 use Rattle.history.specs.Laws.{numbers}
 use Rattle.history.specs.Meaning.{request_of, reply_of}
-use Rattle.history.proofs.Runs.{drop-on, Played, played_more, at_any}
+use Rattle.history.proofs.Runs.{drop-on, Played, played_more}
 use Rattle.history.specs.declared.calls.Call.{Call}
 use Rattle.history.specs.declared.calls.Call.TheVariants.{Reset}
 use Rattle.history.proofs.Stays.{numbers_stay, only_programming, steps_only_program, power_up_forgets, met_stays}
@@ -24,8 +24,8 @@ loop-i-preserved g c =
     let asked : i < length calls = omega arith in
     let room : i < length answers = omega arith in
     let below : i < i + 1 = omega arith in
-    -- whatever stands there when a place is missing, place i is none such
-    let here : (q : Call) → get_or calls i q ≡ get_or calls i Reset = λ q. at_any calls i q asked in
+    -- place i is in the list, so it is the same at any default
+    let here : (q : Call) → get_or calls i q ≡ get_or calls i Reset = λ q. get_or_default calls i q Reset asked in
     let one : ◌≡◌ {A = RigState × Reply} (rig_of g.L.Line.chips c.make_call.new.rig, reply_of a) (serve (request_of (get_or calls i Reset)) (rig_of g.L.Line.chips c.loop-i.rig)) = grind (arith, here) in (
       played_more calls answers i (get_or calls i Reset) a (rig_of g.L.Line.chips c.args.rig.now) (rig_of g.L.Line.chips c.loop-i.rig) (rig_of g.L.Line.chips c.make_call.new.rig)
           asked room c.loop-i.invariant.0 one (sym (here (get_or calls i Reset))),
