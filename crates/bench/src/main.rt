@@ -1,19 +1,14 @@
 #![tactic(auto)]
 
 mod crowd;
-mod jobs;
-mod kept;
+mod fault;
 mod pair;
-mod show;
+mod session;
 mod task;
 
 // Runs a whole task and the two jobs on tags played in software, and says in plain words what was done.
 fn main(rt: HostRuntime) -> anyhow::Result<()> {
-    run(&rt)
-}
-
-fn run(rt: &HostRuntime) -> anyhow::Result<()> {
-    task::run(rt)?;
-    pair::run(rt)?;
-    crowd::run(rt)
+    task::run(&rt)?;
+    pair::run(&rt)?;
+    crowd::run(&rt)
 }

@@ -1,43 +1,41 @@
-use crate::show::hex;
-use anyhow::anyhow;
-use line::bus::Line;
-use line::ends::OneTag;
-use memory::protocol::Protocol;
+use crate::session::Session;
+use anyhow::{Context, bail, ensure};
 use number::registration::Number;
 use rig::master::Rig;
-use scratchpad::pad::PadMemory;
+use samples::hex::Hex;
+use samples::numbers::{CLUTCH, GEARBOX, WRONG_GEARBOX, number_of};
+use samples::tags::{Tag, tag_of};
 use sealed::tag::SealedTag;
 use sums::sums::crc16;
 use tag::making::make_tag;
-use wire::bytes::{read_bytes, send_byte, send_bytes};
 
-// Family code 2Dh, a serial number, and the right check byte; and the same with a wrong one.
-const NUMBER: u64 = 0x6101_0000_0036_472D;
-
-const WRONG: u64 = 0x6201_0000_0036_472D;
-
-// The clutch values to write, and the row that takes them.
+// The row that takes the clutch values.
 const ROW: u16 = 0x0040;
 
-const CLUTCH: [u8; 8] = [0x12, 0x5A, 0x03, 0xE8, 0x0B, 0xB8, 0x00, 0x64];
-
-type Gearbox = Rig<OneTag<PadMemory<SealedTag>>>;
+// A gearbox tag alone on its line, and its number.
+#[derive(Drop)]
+struct Task<'a> {
+    session: Session<'a, Tag<SealedTag>>,
+    number: Number,
+}
 
 // From the number to the row read back.
 pub fn run(rt: &HostRuntime) -> anyhow::Result<()> {
     rt.println("A gearbox tag, driven by pulses alone.")?;
     let number = make_number(rt)?;
-    let mut rig = Rig::new(make_gearbox(rt, number)?);
-    power(rt, &mut rig)?;
-    identify(rt, &mut rig)?;
-    write_scratchpad(rt, &mut rig, number)?;
-    read_scratchpad(rt, &mut rig, number)?;
-    copy_scratchpad(rt, &mut rig, number)?;
-    let found = read_memory(rt, &mut rig, number)?;
-    let steps = rig.steps();
-    if found != CLUTCH {
-        return Err(anyhow!("the row is not as written"));
-    }
+    let rig = Rig::new(make_gearbox(rt, number)?);
+    let mut task = Task {
+        session: Session { rt, rig },
+        number,
+    };
+    task.power()?;
+    task.identify()?;
+    task.write_scratchpad()?;
+    task.read_scratchpad()?;
+    task.copy_scratchpad()?;
+    let found = task.read_memory()?;
+    ensure!(found == CLUTCH, "the row is not as written");
+    let steps = task.session.rig.steps();
     println!(rt;
         "Done: row {ROW:04X}h holds the clutch values, in {steps} steps: 6 resets, 1 dwell, {} slots.",
         steps.saturating_sub(7)
@@ -46,161 +44,109 @@ pub fn run(rt: &HostRuntime) -> anyhow::Result<()> {
 }
 
 fn make_number(rt: &HostRuntime) -> anyhow::Result<Number> {
-    match Number::new(WRONG) {
-        Ok(_) => return Err(anyhow!("a number with a wrong check byte was made")),
-        Err(fault) => {
-            let refusal = fault.refusal();
-            println!(rt;
-                "Number {}: refused with {refusal}, wrong check byte.",
-                hex(rt.alloc(), &WRONG.to_le_bytes())?
-            )?;
-        }
-    }
-    let Ok(number) = Number::new(NUMBER) else {
-        return Err(anyhow!("no number"));
+    let Err(fault) = Number::try_from(WRONG_GEARBOX) else {
+        bail!("a number with a wrong check byte was made");
     };
-    let family = number.family();
     println!(rt;
-        "Number {}: made, family {family:02X}h.",
-        hex(rt.alloc(), &number.bytes())?
+        "Number {}: refused with {}, wrong check byte.",
+        Hex(&WRONG_GEARBOX.to_le_bytes()),
+        fault.refusal()
+    )?;
+    let number = number_of(GEARBOX)?;
+    println!(rt;
+        "Number {}: made, family {:02X}h.",
+        Hex(&number.bytes()),
+        number.family()
     )?;
     Ok(number)
 }
 
-fn make_gearbox(rt: &HostRuntime, number: Number) -> anyhow::Result<OneTag<PadMemory<SealedTag>>> {
+fn make_gearbox(rt: &HostRuntime, number: Number) -> anyhow::Result<Tag<SealedTag>> {
     let image = [0xff; 136];
-    let mut place: Option<OneTag<PadMemory<SealedTag>>> = None;
-    if let Err(fault) = make_tag(&mut place, number, &image[0..135]) {
-        let refusal = fault.refusal();
-        println!(rt; "Sealed tag from an image of 135 bytes: refused with {refusal}.")?;
-    }
-    if make_tag(&mut place, number, &image).is_ok() {
-        rt.println("Sealed tag from an image of 136 bytes: made, without power.")?;
-    }
-    match place {
-        Some(tag) => Ok(tag),
-        None => Err(anyhow!("no tag")),
-    }
+    let mut place: Option<Tag<SealedTag>> = None;
+    let Err(fault) = make_tag(&mut place, number, &image[..135]) else {
+        bail!("a tag was made from a short image");
+    };
+    println!(rt;
+        "Sealed tag from an image of 135 bytes: refused with {}.",
+        fault.refusal()
+    )?;
+    let tag = tag_of::<SealedTag>(GEARBOX, &image)?;
+    rt.println("Sealed tag from an image of 136 bytes: made, without power.")?;
+    Ok(tag)
 }
 
-fn power(rt: &HostRuntime, rig: &mut Gearbox) -> anyhow::Result<()> {
-    if present(rig)? {
-        return Err(anyhow!("a tag without power is present"));
-    }
-    rt.println("Reset: no presence, the tag has no power.")?;
-    rig.power_up();
-    rig.begin_count();
-    rt.println("Power-up.")?;
-    Ok(())
-}
-
-// A reset; whether a tag is present.
-fn present<L: Line>(rig: &mut Rig<L>) -> anyhow::Result<bool> {
-    match rig.reset() {
-        Ok(present) => Ok(present),
-        Err(_) => Err(anyhow!("the line is busy")),
-    }
-}
-
-// A reset that must find a tag.
-fn begin<L: Line>(rig: &mut Rig<L>) -> anyhow::Result<()> {
-    if present(rig)? {
+impl Task<'_> {
+    fn power(&mut self) -> anyhow::Result<()> {
+        let Ok(false) = self.session.rig.reset() else {
+            bail!("a tag without power is present");
+        };
+        self.session
+            .rt
+            .println("Reset: no presence, the tag has no power.")?;
+        self.session.power_up()?;
+        self.session.rig.begin_count();
         Ok(())
-    } else {
-        Err(anyhow!("no presence"))
     }
-}
 
-// A reset, 55h with the number, and the bytes of a command.
-pub fn select<L: Line>(rig: &mut Rig<L>, number: Number, command: &[u8]) -> anyhow::Result<()> {
-    begin(rig)?;
-    if send_byte(rig, 0x55).is_err()
-        || send_bytes(rig, &number.bytes()).is_err()
-        || send_bytes(rig, command).is_err()
-    {
-        return Err(anyhow!("the line is busy"));
+    fn identify(&mut self) -> anyhow::Result<()> {
+        self.session.begin()?;
+        self.session.send(&[0x33])?;
+        let bytes = self.session.read::<8>()?;
+        number_of(u64::from_le_bytes(bytes)).context("the number was garbled")?;
+        println!(self.session.rt; "33h: the tag says its number {}.", Hex(&bytes))?;
+        Ok(())
     }
-    Ok(())
-}
 
-fn read<L: Line, const N: usize>(rig: &mut Rig<L>) -> anyhow::Result<[u8; N]> {
-    match read_bytes::<L, N>(rig) {
-        Ok(bytes) => Ok(bytes),
-        Err(_) => Err(anyhow!("the line is busy")),
+    fn write_scratchpad(&mut self) -> anyhow::Result<()> {
+        let [low, high] = ROW.to_le_bytes();
+        let [a, b, c, d, e, f, g, h] = CLUTCH;
+        let sent = [0x0F, low, high, a, b, c, d, e, f, g, h];
+        self.session.select(self.number, &sent)?;
+        let sum = u16::from_le_bytes(self.session.read::<2>()?);
+        ensure!(sum == !crc16(&sent), "wrong check sum after 0Fh");
+        println!(self.session.rt;
+            "0Fh: {} sent for row {ROW:04X}h, inverted CRC-16 {sum:04X}h is right.",
+            Hex(&CLUTCH)
+        )?;
+        Ok(())
     }
-}
 
-fn identify(rt: &HostRuntime, rig: &mut Gearbox) -> anyhow::Result<()> {
-    begin(rig)?;
-    if send_byte(rig, 0x33).is_err() {
-        return Err(anyhow!("the line is busy"));
+    fn read_scratchpad(&mut self) -> anyhow::Result<()> {
+        self.session.select(self.number, &[0xAA])?;
+        let got = self.session.read::<13>()?;
+        println!(self.session.rt;
+            "AAh: address {}, status {:02X}h, scratchpad {}, inverted CRC-16 {}.",
+            Hex(&got[..2]),
+            got[2],
+            Hex(&got[3..11]),
+            Hex(&got[11..])
+        )?;
+        Ok(())
     }
-    let bytes = read::<OneTag<PadMemory<SealedTag>>, 8>(rig)?;
-    if Number::new(u64::from_le_bytes(bytes)).is_err() {
-        return Err(anyhow!("the number was garbled"));
+
+    fn copy_scratchpad(&mut self) -> anyhow::Result<()> {
+        let [low, high] = ROW.to_le_bytes();
+        self.session.select(self.number, &[0x55, low, high, 0x07])?;
+        let Err(fault) = self.session.rig.reset() else {
+            bail!("a programming tag let a reset pass");
+        };
+        println!(self.session.rt;
+            "55h: copy begun; a reset now is refused with {}.",
+            fault.refusal()
+        )?;
+        self.session.rig.dwell();
+        let [said] = self.session.read::<1>()?;
+        println!(self.session.rt; "Dwell: the tag says {said:02X}h.")?;
+        Ok(())
     }
-    println!(rt;
-        "33h: the tag says its number {}.",
-        hex(rt.alloc(), &bytes)?
-    )?;
-    Ok(())
-}
 
-fn low(row: u16) -> u8 {
-    (row & 0xff) as u8
-}
-
-fn high(row: u16) -> u8 {
-    (row >> 8) as u8
-}
-
-fn write_scratchpad(rt: &HostRuntime, rig: &mut Gearbox, number: Number) -> anyhow::Result<()> {
-    let [a, b, c, d, e, f, g, h] = CLUTCH;
-    let sent = [0x0F, low(ROW), high(ROW), a, b, c, d, e, f, g, h];
-    select(rig, number, &sent)?;
-    let sum = u16::from_le_bytes(read::<OneTag<PadMemory<SealedTag>>, 2>(rig)?);
-    if sum != !crc16(&sent) {
-        return Err(anyhow!("wrong check sum after 0Fh"));
+    fn read_memory(&mut self) -> anyhow::Result<[u8; 8]> {
+        let [low, high] = ROW.to_le_bytes();
+        self.session.select(self.number, &[0xF0, low, high])?;
+        let found = self.session.read::<8>()?;
+        println!(self.session.rt; "F0h: row {ROW:04X}h reads {}.", Hex(&found))?;
+        self.session.begin()?;
+        Ok(found)
     }
-    println!(rt;
-        "0Fh: {} sent for row {ROW:04X}h, inverted CRC-16 {sum:04X}h is right.",
-        hex(rt.alloc(), &CLUTCH)?
-    )?;
-    Ok(())
-}
-
-fn read_scratchpad(rt: &HostRuntime, rig: &mut Gearbox, number: Number) -> anyhow::Result<()> {
-    select(rig, number, &[0xAA])?;
-    let got = read::<OneTag<PadMemory<SealedTag>>, 13>(rig)?;
-    let status = got[2];
-    println!(rt;
-        "AAh: address {}, status {status:02X}h, scratchpad {}, inverted CRC-16 {}.",
-        hex(rt.alloc(), &got[0..2])?,
-        hex(rt.alloc(), &got[3..11])?,
-        hex(rt.alloc(), &got[11..13])?
-    )?;
-    Ok(())
-}
-
-fn copy_scratchpad(rt: &HostRuntime, rig: &mut Gearbox, number: Number) -> anyhow::Result<()> {
-    select(rig, number, &[0x55, low(ROW), high(ROW), 0x07])?;
-    match rig.reset() {
-        Ok(_) => return Err(anyhow!("a programming tag let a reset pass")),
-        Err(fault) => {
-            let refusal = fault.refusal();
-            println!(rt; "55h: copy begun; a reset now is refused with {refusal}.")?;
-        }
-    }
-    rig.dwell();
-    let [said] = read::<OneTag<PadMemory<SealedTag>>, 1>(rig)?;
-    println!(rt; "Dwell: the tag says {said:02X}h.")?;
-    Ok(())
-}
-
-fn read_memory(rt: &HostRuntime, rig: &mut Gearbox, number: Number) -> anyhow::Result<[u8; 8]> {
-    select(rig, number, &[0xF0, low(ROW), high(ROW)])?;
-    let found = read::<OneTag<PadMemory<SealedTag>>, 8>(rig)?;
-    println!(rt; "F0h: row {ROW:04X}h reads {}.", hex(rt.alloc(), &found)?)?;
-    begin(rig)?;
-    Ok(found)
 }

@@ -1,18 +1,12 @@
 -- Facts on bits.
-use Rattle.std.proofs.Common.{◌≡◌, ℕ, zero, suc, ◌+◌, ◌-◌, ◌*◌, ◌/◌, ◌%◌, ◌^◌, ◌<◌, Bool, true, false, eqb, List, [], ◌∷◌, ◌++◌, length, get_or, drop, sym, refl, ap, ◌∙◌, ap₂, append_assoc, append-nil, zero-add, add-one, arith, length-append, drop-cons}
+use Rattle.std.proofs.Common.{◌≡◌, ℕ, zero, suc, ◌+◌, ◌-◌, ◌*◌, ◌/◌, ◌%◌, ◌^◌, ◌<◌, Bool, true, false, eqb, List, [], ◌∷◌, ◌++◌, length, get_or, sym, refl, ap, ◌∙◌, ap₂, append_assoc, append-nil, zero-add, add-one, arith, length-append}
 use lib.Bits.{bit_and, bit_or, and_step, and_shr, block_odd, block_half, or_shifted_r}
 use lib.Pow.{pow-lt}
 use mir.Val.{bool_byte}
 use Rattle.std.proofs.lemmas.Bool.Decides.{nat_tests}
 use Rattle.std.proofs.lemmas.Bool.{eq-eqb, ne_eqb}
-use Rattle.bits.specs.Bits.{odd, bits_of, bit, value, bits_all, full, front_bit, rest_bits, spent}
-
-pub bit-odd : (x : ℕ) → bit (odd x) ≡ x % 2
-bit-odd x = grind (arith, nat_tests)
-
-pub value_bits : (n x : ℕ) → x < 2 ^ n → value (bits_of n x) ≡ x
-value_bits zero x h = omega arith
-value_bits (suc n) x h = let ih : value (bits_of n (x / 2)) ≡ x / 2 = value_bits n (x / 2) (omega arith) in omega (arith, ih, bit-odd x)
+use Rattle.bits.specs.Widths.{length_bits}
+use Rattle.bits.specs.Bits.{odd, bits_of, bit, value, bits_all, full, rest_bits, spent}
 
 odd-bit : (b : Bool) (n : ℕ) → odd (bit b + 2 * n) ≡ b
 odd-bit true n = eq-eqb _ _ (omega arith)
@@ -35,10 +29,6 @@ bits_and (suc n) x y zero h = ne_eqb _ _ (λ e. go e)
     go e = grind (arith, nat_tests, and_step x y, h)
 bits_and (suc n) x y (suc j) h = ap (λ z. get_or (bits_of n z) j false) (and_shr x y 1) ∙ bits_and n (x / 2) (y / 2) j h
 
-pub length_bits : (n x : ℕ) → length (bits_of n x) ≡ n
-length_bits zero x = refl
-length_bits (suc n) x = ap suc (length_bits n (x / 2))
-
 odd_first : (b : Bool) → odd (bit b * 2 ^ 0 + 0) ≡ b
 odd_first true = refl
 odd_first false = refl
@@ -59,11 +49,6 @@ top_small n x false s = rw add-one (omega (arith, double n))
 
 pub length_pushed : (n x : ℕ) (b : Bool) → length (bits_of n x ++ (b ∷ [])) ≡ n + 1
 length_pushed n x b = simp (length-append, length_bits)
-
--- a queue of more than no bits
-pub bits_front : (n x : ℕ) → 0 < n → front_bit (bits_of n x) ≡ odd x
-bits_front zero x h = absurd (omega arith)
-bits_front (suc n) x h = refl
 
 pub bits_rest : (n x : ℕ) → rest_bits (bits_of n x) ≡ bits_of (n - 1) (x / 2)
 bits_rest zero x = refl
@@ -109,18 +94,9 @@ two_bytes x =
 true_not_false : true ≡ false → ⊥
 true_not_false h = let z : ◌≡◌ {A = ℕ} 0 1 = cc in omega arith
 
--- the same with more bits behind
-pub front_ahead : (xs ys : List Bool) → spent xs ≡ false → front_bit (xs ++ ys) ≡ front_bit xs
-front_ahead [] ys h = absurd (true_not_false h)
-front_ahead (x ∷ xs) ys h = refl
-
 pub rest_ahead : (xs ys : List Bool) → spent xs ≡ false → rest_bits (xs ++ ys) ≡ rest_bits xs ++ ys
 rest_ahead [] ys h = absurd (true_not_false h)
 rest_ahead (x ∷ xs) ys h = refl
-
--- the bytes from a place on, the first of them apart
-pub bytes_more : (m : List ℕ) (k d : ℕ) → k < length m → bits_of 8 (get_or m k d) ++ bits_all (drop (k + 1) m) ≡ bits_all (drop k m)
-bytes_more m k d h = rw (add-one, drop-cons m k d h)
 
 -- the bits of some bytes, then those of more
 -- eight bits to a byte

@@ -38,18 +38,6 @@ number-taken b c = go c.live
     go off = refl
     go (on rc p) = take-number protocols p rc b c
 
-pub number-reset : (c : ChipState) → (reset_chip c).number ≡ c.number
-number-reset c = refl
-
-pub number-dwell : (c : ChipState) → (dwell_chip c).number ≡ c.number
-number-dwell c = refl
-
-pub number_cut : (mask : ℕ) (c : ChipState) → (cut_chip mask c).number ≡ c.number
-number_cut mask c = refl
-
-pub number_power : (c : ChipState) → (power_chip c).number ≡ c.number
-number_power c = refl
-
 -- neither a taken bit, nor a reset, nor power-up changes a byte
 abbrev SameBytes : ChipState → ChipState → Type 0
 SameBytes c d = bytes_of d ≡ bytes_of c

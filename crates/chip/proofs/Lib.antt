@@ -2,3 +2,4 @@ pub mod Keeps
 pub mod Sound
 pub mod Select
 pub mod SameKind
+pub mod Compared

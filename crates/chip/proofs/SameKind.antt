@@ -3,7 +3,7 @@ use Rattle.std.proofs.Common.{◌≡◌, ℕ, Bool, refl, ◌∙◌}
 use Rattle.bits.proofs.Choice.{pick}
 use Rattle.memory.specs.Memories.{Memory, kind_in}
 use Rattle.memory.proofs.Keeps.{begin_kind, take_kind, wake_kind, dwell_kind, burn_kind}
-use Rattle.chip.specs.Steps.{ChipState, has_power, is_busy, take_bit, reset_chip, dwell_chip, cut_chip, power_chip}
+use Rattle.chip.specs.Steps.{ChipState, has_power, is_busy, take_bit, dwell_chip, cut_chip, power_chip}
 use Rattle.chip.proofs.Sound.{taken_keeps}
 
 module _ (c : ChipState) where
@@ -12,9 +12,6 @@ module _ (c : ChipState) where
 
   pub kind_taken : (b : Bool) → kind_in (take_bit b c).memory ≡ kind_in c.memory
   kind_taken b = taken_keeps OfKind (λ m e. begin_kind m ∙ e) (λ m b' e. take_kind m b' ∙ e) b c refl
-
-  pub kind_reset : kind_in (reset_chip c).memory ≡ kind_in c.memory
-  kind_reset = refl
 
   pub kind_dwell : kind_in (dwell_chip c).memory ≡ kind_in c.memory
   kind_dwell = pick (is_busy c) OfKind (dwell_kind c.memory) refl

@@ -2,7 +2,7 @@
 use Rattle.std.proofs.Common.{◌≡◌, ℕ, ◌^◌, ◌<◌, Bool, true, false, eqb, ◌≢◌, List, [], ◌∷◌, ◌++◌, length, sym, refl, ap, ◌∙◌, subst, arith, eq-eqb}
 use Rattle.std.proofs.lemmas.Bool.{eqb-true, true≢false}
 use Rattle.bits.specs.Bits.{bits_of, value, same}
-use Rattle.bits.proofs.Queues.{value_bits}
+use Rattle.bits.specs.Widths.{value_bits}
 use Rattle.memory.specs.Memories.{Memory, protocols, begin_memory}
 use Rattle.chip.proofs.Keeps.{number-taken}
 use Rattle.chip.specs.Chips.{Live, off, on, idle, command, matching, selected, agreed, reset_live}

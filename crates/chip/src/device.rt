@@ -1,20 +1,25 @@
-ghost use Rattle.std.specs.Prelude.{◌≡◌, true};
+ghost use Rattle.std.specs.Prelude.{◌≡◌, true, false, []};
+ghost use Rattle.bits.specs.Bits.{same, front_bit, rest_bits, spent};
 ghost use Rattle.memory.specs.Memories.{protocols};
-ghost use Rattle.chip.specs.Chips.{select, obey, command_of};
+ghost use Rattle.chip.specs.Chips.{idle, on, at, select, take_in, obey, command, command_of};
+ghost use Rattle.chip.specs.Commands.{meant};
 ghost use Rattle.chip.specs.Steps.{made_chip, has_power, is_busy, pull_of, take_bit, reset_chip, dwell_chip, cut_chip, power_chip};
-ghost use Rattle.chip.specs.Meaning.{model};
+ghost use Rattle.chip.specs.Effects.{effect};
+ghost use Rattle.chip.specs.Meaning.{model, live_of, phase_of, Onward};
 
-use crate::phase::RomPhase;
-use bits::shift::{Incoming, Outgoing, Pushed};
+use crate::command::NumberCommand;
+use crate::phase::{Live, RomPhase};
+use crate::step::Step;
+use bits::shift::{Incoming, Outgoing};
+use memory::command::UnknownCommand;
 use memory::protocol::Protocol;
 use number::registration::Number;
 
+// No `impl Model`: the value of a memory holds the rules of its kind, which are functions, and a function has no code.
 #[derive(Drop)]
 pub struct Chip<P> {
     number: Number,
-    power: bool,
-    rc: bool,
-    phase: RomPhase,
+    live: Option<Live>,
     memory: P,
 }
 
@@ -25,9 +30,7 @@ impl<P: Protocol> Chip<P> {
     {
         Chip {
             number,
-            power: false,
-            rc: false,
-            phase: RomPhase::Idle,
+            live: None,
             memory: behind,
         }
     }
@@ -35,24 +38,32 @@ impl<P: Protocol> Chip<P> {
     pub fn has_power(&self) -> bool
         ensures { result ≡ has_power (model P.memory self.now) }
     {
-        self.power
+        self.live.is_some()
     }
 
     // It has power and is programming.
     pub fn is_busy(&self) -> bool
         ensures { result ≡ is_busy (model P.memory self.now) }
     {
-        matches!(self.phase, RomPhase::Selected) && self.power && self.memory.programming()
+        match self.live {
+            Some(
+                Live {
+                    phase: RomPhase::Selected,
+                    ..
+                },
+            ) => self.memory.programming(),
+            _ => false,
+        }
     }
 
     // The bit that it pulls, true where it pulls nothing.
     pub fn pull(&self) -> bool
         ensures { result ≡ pull_of (model P.memory self.now) }
     {
-        if !self.power {
+        let Some(Live { phase, .. }) = self.live else {
             return true;
-        }
-        match self.phase {
+        };
+        match phase {
             RomPhase::SendNumber { rest } | RomPhase::SeekItself { rest } => rest.bit(),
             RomPhase::SeekOpposite { rest } => !rest.bit(),
             RomPhase::Selected => self.memory.pull(),
@@ -63,10 +74,8 @@ impl<P: Protocol> Chip<P> {
     pub fn power_up(&mut self)
         ensures { model P.memory self.new ≡ power_chip (model P.memory self.old) }
     {
-        if !self.power {
-            self.power = true;
-            self.rc = false;
-            self.phase = RomPhase::Idle;
+        if self.live.is_none() {
+            self.go(false, RomPhase::Idle);
             self.memory.wake();
         }
     }
@@ -74,10 +83,9 @@ impl<P: Protocol> Chip<P> {
     pub fn reset(&mut self)
         ensures { model P.memory self.new ≡ reset_chip (model P.memory self.old) }
     {
-        if self.power && !self.is_busy() {
-            self.phase = RomPhase::Command {
-                bits: Incoming::none(),
-            };
+        match self.live {
+            Some(Live { rc, .. }) if !self.is_busy() => self.go(rc, command()),
+            _ => {}
         }
     }
 
@@ -95,91 +103,127 @@ impl<P: Protocol> Chip<P> {
         if self.is_busy() {
             self.memory.burn(mask);
         }
-        self.power = false;
+        self.live = None;
+    }
+
+    // A step of the chip's line.
+    pub fn step(&mut self, step: Step)
+        ensures { model P.memory self.new ≡ effect step (model P.memory self.old) }
+    {
+        match step {
+            Step::Reset => self.reset(),
+            Step::Take(bit) => self.take(bit),
+            Step::Dwell => self.dwell(),
+            Step::Cut(mask) => self.cut(mask),
+            Step::PowerUp => self.power_up(),
+        }
     }
 
     // One taken bit.
     pub fn take(&mut self, bit: bool)
         ensures { model P.memory self.new ≡ take_bit bit (model P.memory self.old) }
     {
-        if !self.power {
-            return;
+        if let Some(Live { rc, phase }) = self.live {
+            self.take_in(rc, phase, bit);
         }
-        match (self.phase, bit) {
-            (RomPhase::Idle, _) => {}
-            (RomPhase::Command { bits }, b) => match bits.push(b) {
-                Pushed::More(bits) => self.phase = RomPhase::Command { bits },
-                Pushed::Byte(byte) => self.obey(byte),
+    }
+
+    // One bit taken under power, in a phase.
+    fn take_in(&mut self, rc: bool, phase: RomPhase, bit: bool)
+        requires { live_of self.old.live ≡ on rc (phase_of phase) }
+        ensures { model P.memory self.new ≡ take_in protocols (phase_of phase) rc bit (model P.memory self.old) }
+    {
+        match phase {
+            RomPhase::Idle => {}
+            RomPhase::Command { mut bits } => match bits.push(bit) {
+                None => self.go(rc, RomPhase::Command { bits }),
+                Some(byte) => self.byte(rc, byte),
             },
-            (RomPhase::SendNumber { rest }, _) => match rest.next() {
-                Some(rest) => self.phase = RomPhase::SendNumber { rest },
-                None => self.select(),
+            RomPhase::SendNumber { rest } => match rest.next() {
+                Some(rest) => self.go(rc, RomPhase::SendNumber { rest }),
+                None => self.select(rc),
             },
-            (RomPhase::Matching { rest }, b) => {
-                if b != rest.bit() {
-                    self.phase = RomPhase::Idle;
-                } else if let Some(rest) = rest.next() {
-                    self.phase = RomPhase::Matching { rest };
-                } else {
-                    self.rc = true;
-                    self.select();
-                }
+            RomPhase::Matching { rest } => {
+                self.compare(rc, rest, bit, |rest| RomPhase::Matching { rest });
             }
-            (RomPhase::SeekItself { rest }, _) => self.phase = RomPhase::SeekOpposite { rest },
-            (RomPhase::SeekOpposite { rest }, _) => self.phase = RomPhase::SeekChoice { rest },
-            (RomPhase::SeekChoice { rest }, b) => {
-                if b != rest.bit() {
-                    self.phase = RomPhase::Idle;
-                } else if let Some(rest) = rest.next() {
-                    self.phase = RomPhase::SeekItself { rest };
-                } else {
-                    self.rc = true;
-                    self.select();
-                }
+            RomPhase::SeekItself { rest } => self.go(rc, RomPhase::SeekOpposite { rest }),
+            RomPhase::SeekOpposite { rest } => self.go(rc, RomPhase::SeekChoice { rest }),
+            RomPhase::SeekChoice { rest } => {
+                self.compare(rc, rest, bit, |rest| RomPhase::SeekItself { rest });
             }
-            (RomPhase::Selected, b) => self.memory.take(b),
+            RomPhase::Selected => self.memory.take(bit),
         }
+    }
+
+    // On to a phase.
+    fn go(&mut self, rc: bool, phase: RomPhase)
+        ensures chip { model P.memory self.new ≡ at protocols (model P.memory self.old) (on rc (phase_of phase)) }
+        ensures memory { self.new.memory ≡ self.old.memory }
+    {
+        self.live = Some(Live { rc, phase });
     }
 
     // The memory phase begins.
-    fn select(&mut self)
-        requires { self.old.power ≡ true }
-        ensures { model P.memory self.new ≡ select protocols (model P.memory self.old) self.old.rc }
+    fn select(&mut self, rc: bool)
+        ensures { model P.memory self.new ≡ select protocols (model P.memory self.old) rc }
     {
-        self.phase = RomPhase::Selected;
+        self.go(rc, RomPhase::Selected);
         self.memory.begin();
     }
 
-    // A command of the ROM phase.
-    fn obey(&mut self, command: u8)
-        requires { self.old.power ≡ true }
-        ensures { model P.memory self.new ≡ obey protocols (command_of command) self.old.rc (model P.memory self.old) }
+    // A compared bit: idle where it differs from the number's, else on with the rest of the number, or after its last bit RC and the memory phase.
+    fn compare<F: FnOnce(Outgoing) -> RomPhase>(
+        &mut self,
+        rc: bool,
+        rest: Outgoing,
+        bit: bool,
+        onward: F,
+    )
+        requires { F.IsAlwaysCallable onward }
+        ensures differs { same (front_bit rest) bit ≡ false → model P.memory self.new ≡ at protocols (model P.memory self.old) (on rc idle) }
+        ensures last { same (front_bit rest) bit ≡ true → spent (rest_bits rest) ≡ true → model P.memory self.new ≡ select protocols (model P.memory self.old) true }
+        ensures more { same (front_bit rest) bit ≡ true → spent (rest_bits rest) ≡ false → Onward (F.post onward (rest_bits rest)) rc (model P.memory self.old) (model P.memory self.new) }
     {
-        match command {
-            0x33 => {
-                self.rc = false;
-                self.phase = RomPhase::SendNumber {
-                    rest: Outgoing::word(self.number.word()),
-                };
-            }
-            0x55 => {
-                self.rc = false;
-                self.phase = RomPhase::Matching {
-                    rest: Outgoing::word(self.number.word()),
-                };
-            }
-            0xF0 => {
-                self.rc = false;
-                self.phase = RomPhase::SeekItself {
-                    rest: Outgoing::word(self.number.word()),
-                };
-            }
-            0xCC => {
-                self.rc = false;
-                self.select();
-            }
-            0xA5 if self.rc => self.select(),
-            _ => self.phase = RomPhase::Idle,
+        if bit != rest.bit() {
+            self.go(rc, RomPhase::Idle);
+        } else if let Some(rest) = rest.next() {
+            self.go(rc, onward(rest));
+        } else {
+            self.select(true);
         }
+    }
+
+    // A complete byte of the ROM phase.
+    fn byte(&mut self, rc: bool, byte: u8)
+        ensures { model P.memory self.new ≡ obey protocols (command_of byte) rc (model P.memory self.old) }
+    {
+        match NumberCommand::try_from(byte) {
+            Ok(command) => self.obey(rc, command),
+            Err(UnknownCommand(_)) => self.go(rc, RomPhase::Idle),
+        }
+    }
+
+    // A command of the ROM phase.
+    fn obey(&mut self, rc: bool, command: NumberCommand)
+        ensures { model P.memory self.new ≡ obey protocols (meant command) rc (model P.memory self.old) }
+    {
+        let rest = Outgoing::from(self.number.word());
+        match command {
+            NumberCommand::ReadNumber => self.go(false, RomPhase::SendNumber { rest }),
+            NumberCommand::MatchNumber => self.go(false, RomPhase::Matching { rest }),
+            NumberCommand::SeekNumber => self.go(false, RomPhase::SeekItself { rest }),
+            NumberCommand::SkipNumber => self.select(false),
+            NumberCommand::Resume if rc => self.select(true),
+            NumberCommand::Resume => self.go(false, RomPhase::Idle),
+        }
+    }
+}
+
+// No bit of a command has come.
+fn command() -> RomPhase
+    ensures { phase_of result ≡ command [] }
+{
+    RomPhase::Command {
+        bits: Incoming::none(),
     }
 }

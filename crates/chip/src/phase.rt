@@ -13,3 +13,10 @@ pub enum RomPhase {
     // The memory phase: the memory behind the number takes the bits.
     Selected,
 }
+
+// What a chip has while it has power: RC, and what it is doing with its number.
+#[derive(Clone, Copy)]
+pub struct Live {
+    pub rc: bool,
+    pub phase: RomPhase,
+}

@@ -1,9 +1,10 @@
 -- A tag is its number and its bytes.
 use Rattle.std.proofs.Common.{◌≡◌, ℕ, suc, ◌*◌, ◌^◌, ◌<◌, Bool, true, false, ◌&&◌, ◌||◌, List, [], ◌∷◌, ◌++◌, map, length, replicate, sym, refl, ap, ◌∙◌, subst, ap₂, arith}
 use mathlib.Core.Bool.{and-true}
-use lib.ListN.{length-map}
+use Rattle.std.proofs.lemmas.List.{append_cancel_left, append_cancel_right}
 use Rattle.bits.specs.Bits.{bits_of, value, bits_all}
-use Rattle.bits.proofs.Queues.{value_bits, length_all}
+use Rattle.bits.proofs.Queues.{length_all}
+use Rattle.bits.specs.Widths.{value_bits}
 use Rattle.kind.specs.Kinds.{Rules, Bytes}
 use Rattle.memory.specs.Scratchpads.{Work, on, fresh, await, command, sending, idle}
 use Rattle.memory.specs.Memories.{Memory, padded, protocols, bytes_in, kind_in, wake_memory}
@@ -158,25 +159,23 @@ bytes_from (x ∷ xs) (y ∷ ys) h f g e =
     (bytes_from xs ys (omega arith) (λ a. f (suc a)) (λ a. g (suc a)) t.1)
 
 -- equal replies to the probe, equal number and bits of the memory
-everything_tells : (x y : ℕ) (m n : List ℕ) → length (bits_all m) ≡ length (bits_all n) → everything x m ≡ everything y n
+everything_tells : (x y : ℕ) (m n : List ℕ) → everything x m ≡ everything y n
     → (bits_of 64 x ≡ bits_of 64 y) × (bits_all m ≡ bits_all n)
-everything_tells x y m n h e = (bits_from (bits_of 64 x) (bits_of 64 y) number.0, bits_from (bits_all m) (bits_all n) memory.0)
+everything_tells x y m n e = (bits_from (bits_of 64 x) (bits_of 64 y) number.0, bits_from (bits_all m) (bits_all n) memory)
   where
     asked : ◌≡◌ {A = List Reply} (map bit_is (bits_of 64 x) ++ (map bit_is ask_memory ++ (map bit_is (bits_all m) ++ [])))
         (map bit_is (bits_of 64 y) ++ (map bit_is ask_memory ++ (map bit_is (bits_all n) ++ [])))
-    asked = (parts (presence_is true ∷ map bit_is ask_number) (presence_is true ∷ map bit_is ask_number) _ _ refl e).1
+    asked = append_cancel_left (presence_is true ∷ map bit_is ask_number) _ _ e
 
     number : (map bit_is (bits_of 64 x) ≡ map bit_is (bits_of 64 y))
         × (◌≡◌ {A = List Reply} (map bit_is ask_memory ++ (map bit_is (bits_all m) ++ [])) (map bit_is ask_memory ++ (map bit_is (bits_all n) ++ [])))
     number = parts (map bit_is (bits_of 64 x)) (map bit_is (bits_of 64 y)) _ _ refl asked
 
     rest : ◌≡◌ {A = List Reply} (map bit_is (bits_all m) ++ []) (map bit_is (bits_all n) ++ [])
-    rest = (parts (map bit_is ask_memory) (map bit_is ask_memory) _ _ refl number.1).1
+    rest = append_cancel_left (map bit_is ask_memory) _ _ number.1
 
-    memory : (map bit_is (bits_all m) ≡ map bit_is (bits_all n)) × (◌≡◌ {A = List Reply} [] [])
-    memory =
-        parts (map bit_is (bits_all m)) (map bit_is (bits_all n)) [] []
-        (length-map (bits_all m) bit_is ∙ h ∙ sym (length-map (bits_all n) bit_is)) rest
+    memory : map bit_is (bits_all m) ≡ map bit_is (bits_all n)
+    memory = append_cancel_right (map bit_is (bits_all m)) (map bit_is (bits_all n)) [] rest
 
 -- bounds and length of a sound memory's bytes
 sound_length : (m : Memory) → SoundMemory m → length (bytes_in m) ≡ (kind_in m).n
@@ -220,7 +219,7 @@ tag_is_its_bytes r s c d jc jd e = (there, back)
     there : Alike r s → (c.number ≡ d.number) × (bytes_of c ≡ bytes_of d)
     there a =
         let k = 8 * (kind_in c.memory).n in
-        let t = everything_tells c.number d.number (bytes_of c) (bytes_of d) (up_bits r c jc ∙ sym bits)
+        let t = everything_tells c.number d.number (bytes_of c) (bytes_of d)
         (sym (up_told r c jc k (up_bits r c jc)) ∙ a (probe k) (given_probe k) ∙ up_told s d jd k bits) in (
           number_from c.number d.number (up_sound r c jc).wide (up_sound s d jd).wide t.0,
           bytes_from (bytes_of c) (bytes_of d) lengths (sound_bytes c.memory (up_sound r c jc).memory) (sound_bytes d.memory (up_sound s d jd).memory) t.1,

@@ -1,7 +1,7 @@
 -- A survey that is lent no more places than it can fill.
-use Rattle.std.proofs.Common.{◌≡◌, ℕ, zero, suc, ◌+◌, ◌-◌, ◌<◌, ◌≤◌, min, Bool, true, false, eqb, leb, List, [], ◌∷◌, ◌++◌, length, take, Ok, Err, Result, sym, refl, ap, ◌∙◌, subst, ap₂, arith}
+use Rattle.std.proofs.Common.{◌≡◌, ℕ, zero, suc, ◌+◌, ◌-◌, min, Bool, true, false, eqb, List, [], ◌∷◌, ◌++◌, length, take, Ok, Err, Result, sym, refl, ap, ◌∙◌, subst, ap₂, arith}
 use Rattle.std.proofs.lemmas.List.{length-append, length-take, take-append-le}
-use Rattle.std.proofs.lemmas.Bool.{leb-true, leb-false, eq-eqb, ne_eqb}
+use Rattle.std.proofs.lemmas.Bool.{eq-eqb, ne_eqb}
 use Rattle.bits.specs.Bits.{value, bits_of}
 use Rattle.rig.specs.Rigs.{RigState}
 use Rattle.wire.specs.Jobs.{ret, Got, done, line_busy, run, good, bad, Report, answered, refused_as}
@@ -84,15 +84,8 @@ longer (Err (InExchange (Failed NoPresence e s))) l x h = ap (λ xs. (refused_as
 longer (Err (InExchange (Failed Garbled e s))) l x h = ap (λ xs. (refused_as 6 e s, xs)) (front (e - 1) l x (h.1 (λ q. omega arith)))
 
 -- places beyond the most that are filled make no difference
-room_min : (n : ℕ) → room_of n ≡ min n most_places
-room_min n = go (leb n most_places) refl
-  where
-    go : (t : Bool) → leb n most_places ≡ t → (elim t as (λ _. ℕ) [ true ↦ n | false ↦ most_places ]) ≡ min n most_places
-    go true e = let h : n ≤ 64 = leb-true n most_places e in omega arith
-    go false e = let h : 64 < n = leb-false n most_places e in omega arith
-
 room_same : (n : ℕ) → room_of (min n most_places) ≡ room_of n
-room_same n = let e : min (min n 64) 64 ≡ min n 64 = omega arith in room_min (min n most_places) ∙ e ∙ sym (room_min n)
+room_same n = omega arith
 
 none-same : (n : ℕ) → eqb (min n most_places) 0 ≡ eqb n 0
 none-same zero = eq-eqb (min zero most_places) 0 (omega arith)

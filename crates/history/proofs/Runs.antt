@@ -1,6 +1,6 @@
 -- Lists of calls.
-use Rattle.std.proofs.Common.{◌≡◌, ℕ, ◌+◌, ◌<◌, List, [], ◌∷◌, ◌++◌, map, length, get_or, take, drop, set, sym, refl, ap, ◌∙◌}
-use Rattle.std.proofs.lemmas.List.{take_more, take_more_set, map_push, drop-drop}
+use Rattle.std.proofs.Common.{◌≡◌, ℕ, ◌+◌, ◌<◌, List, [], ◌∷◌, ◌++◌, map, length, get_or, take, set, sym, refl, ap, ◌∙◌}
+use Rattle.std.proofs.lemmas.List.{take_more, take_more_set, map_push}
 use Rattle.rig.specs.Rigs.{RigState}
 use Rattle.history.specs.declared.calls.Call.{Call}
 use Rattle.history.specs.declared.calls.Answer.{Answer}
@@ -28,10 +28,6 @@ module _ {S Q A : Type 0} (f : Q → S → S × A) where
       ∙ ap (λ (u : S × List A). more u (ask (get_or calls i d))) before
       ∙ sym (run_push (map ask (take i calls)) (ask (get_or calls i d)) r)
       ∙ ap (λ l. run_all f l r) (sym (ap (map ask) (take_more calls i d hc) ∙ map_push ask (take i calls) (get_or calls i d)))
-
--- what is left of two lists, one place on
-pub drop-on : {X : Type 0} (xs ys : List X) (i : ℕ) → drop i xs ≡ drop i ys → drop (i + 1) xs ≡ drop (i + 1) ys
-drop-on xs ys i e = sym (drop-drop 1 i xs) ∙ ap (drop 1) e ∙ drop-drop 1 i ys
 
 -- the first n calls have been played
 abbrev pub Played : RigState → ℕ → List Answer → List Call → RigState → Type 0

@@ -1,7 +1,6 @@
 -- A line without power: what every list of calls gets from it.
-use Rattle.std.proofs.Common.{◌≡◌, ℕ, zero, suc, ◌%◌, Bool, true, false, eqb, leb, List, [], ◌∷◌, map, sym, refl, ap, ◌∙◌, subst, ap₂}
+use Rattle.std.proofs.Common.{min, arith, ◌≡◌, ℕ, zero, suc, ◌%◌, Bool, true, false, eqb, List, [], ◌∷◌, map, sym, refl, ap, ◌∙◌, subst, ap₂}
 use Rattle.std.proofs.lemmas.Bool.{true≢false}
-use Rattle.bits.proofs.Choice.{pick}
 use Rattle.kind.specs.Kinds.{row_length}
 use Rattle.chip.specs.Steps.{cut_chip}
 use Rattle.chip.proofs.Keeps.{off-cut}
@@ -10,7 +9,7 @@ use Rattle.rig.proofs.Unpowered.{AllOff, all_off, off-map, off-refused, off-puls
 use Rattle.wire.specs.Jobs.{Job, ret, step, Ran, line_busy, run, Said, Report, refused_as, report_of, reported}
 use Rattle.wire.proofs.Power.{Resetting}
 use Rattle.reading.specs.Readings.{reading}
-use Rattle.survey.specs.Surveys.{passes, most_places, room_of}
+use Rattle.survey.specs.Surveys.{passes, room_of}
 use Rattle.survey.specs.Surveys.{listed as surveyed}
 use Rattle.order.specs.Orders.{ordering, Ending, Verdict, refuses, verdict_of, with_verdict}
 use Rattle.history.specs.Calls.{Request, reset, slot, dwell, cut, power_up, fuse, survey, read, order, Reply, presence_is, bit_is, done, refused_with, listed, row_is, judged_as, stepped, serve, serve_all}
@@ -40,7 +39,7 @@ off_job {A} (step resets k) r o h =
 
 some_room : (places : ℕ) → eqb places 0 ≡ false → (n : ℕ) × (room_of places ≡ suc n)
 some_room zero h = absurd (true≢false h)
-some_room (suc n) h = pick (leb (suc n) most_places) (λ m. (k : ℕ) × (m ≡ suc k)) (n, refl) (63, refl)
+some_room (suc n) h = (min n 63, omega arith)
 
 off-survey : (places : ℕ) (r : RigState) → AllOff r.line → Answers (silent (survey places)) r (serve (survey places) r)
 off-survey places r o = go (eqb places 0) refl

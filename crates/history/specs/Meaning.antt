@@ -9,7 +9,7 @@ use Rattle.history.specs.Calls.{Request, reset, slot, dwell, cut, power_up, fuse
 use Rattle.history.specs.declared.calls.Call.{Call}
 use Rattle.history.specs.declared.calls.Call.TheVariants.{Reset, Slot, Dwell, Cut, PowerUp, SetFuse, Survey, Read, Order}
 use Rattle.history.specs.declared.calls.Answer.{Answer}
-use Rattle.history.specs.declared.calls.Answer.TheVariants.{Presence, Bit, Done, Refused, Listed, Row, Judged}
+use Rattle.history.specs.declared.calls.Answer.TheVariants.{Presence, Bit, Done, Listed, Row, Judged}
 
 abbrev pub request_of : Call → Request
 request_of Reset = reset
@@ -23,10 +23,11 @@ request_of (Read number row) = read number.word row
 request_of (Order number row new) = order number.word row new
 
 abbrev pub reply_of : Answer → Reply
-reply_of (Presence present) = presence_is present
-reply_of (Bit bit) = bit_is bit
+reply_of (Presence (Ok present)) = presence_is present
+reply_of (Presence (Err f)) = refused_with (refusal f)
+reply_of (Bit (Ok bit)) = bit_is bit
+reply_of (Bit (Err f)) = refused_with (refusal f)
 reply_of Done = done
-reply_of (Refused f) = refused_with (refusal f)
 reply_of (Listed outcome places) = listed (survey_answer outcome places)
 reply_of (Row (Ok a)) = row_is (answered a.0 a.1)
 reply_of (Row (Err f)) = row_is (read_report (Err f) [])

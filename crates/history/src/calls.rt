@@ -35,10 +35,10 @@ pub enum Call {
 // What it answers; a survey with its list.
 #[derive(Clone, Copy)]
 pub enum Answer {
-    Presence(bool),
-    Bit(bool),
+    Presence(Result<bool, RigFault>),
+    Bit(Result<bool, RigFault>),
     Done,
-    Refused(RigFault),
+    // As many places as a survey fills: fixed memory. How many of them are numbers stands in the outcome.
     Listed {
         outcome: Result<(u8, u32), SurveyFault>,
         places: [u64; MOST_PLACES],

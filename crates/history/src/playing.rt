@@ -35,25 +35,17 @@ fn make_reading<L: Line>(rig: &mut Rig<L>, number: Number, row: u16) -> Answer
     ensures { (rig_of L.chips rig.new, reply_of result) ≡ serve (request_of (Read number row)) (rig_of L.chips rig.old) }
 {
     let mut found = [0; ROW];
-    match read_row(rig, number, row, &mut found) {
-        Ok(steps) => Answer::Row(Ok((found, steps))),
-        Err(fault) => Answer::Row(Err(fault)),
-    }
+    let outcome = read_row(rig, number, row, &mut found);
+    Answer::Row(outcome.map(|steps| (found, steps)))
 }
 
-// One call, and its answer.
+// One call, and its answer. A call is data, from letters or lists: one arm for each.
 pub fn make_call<L: Line>(rig: &mut Rig<L>, call: Call) -> Answer
     ensures { (rig_of L.chips rig.new, reply_of result) ≡ serve (request_of call) (rig_of L.chips rig.old) }
 {
     match call {
-        Call::Reset => match rig.reset() {
-            Ok(present) => Answer::Presence(present),
-            Err(fault) => Answer::Refused(fault),
-        },
-        Call::Slot(bit) => match rig.slot(bit) {
-            Ok(seen) => Answer::Bit(seen),
-            Err(fault) => Answer::Refused(fault),
-        },
+        Call::Reset => Answer::Presence(rig.reset()),
+        Call::Slot(bit) => Answer::Bit(rig.slot(bit)),
         Call::Dwell => {
             rig.dwell();
             Answer::Done
@@ -76,7 +68,7 @@ pub fn make_call<L: Line>(rig: &mut Rig<L>, call: Call) -> Answer
     }
 }
 
-// Plays a list of calls, as many as there are places for answers, and says how many.
+// Plays a list of calls, as many as there are places for answers, and says how many; the places are lent, since nothing is allocated.
 pub fn play<L: Line>(rig: &mut Rig<L>, calls: &[Call], answers: &mut [Answer]) -> usize
     ensures count { result ≡ min (length calls.now) (length answers.old) }
     ensures told { (rig_of L.chips rig.new, map reply_of (take result answers.new)) ≡ serve_all (map request_of (take result calls.now)) (rig_of L.chips rig.old) }
@@ -93,8 +85,9 @@ pub fn play<L: Line>(rig: &mut Rig<L>, calls: &[Call], answers: &mut [Answer]) -
     ensures edges { EdgeRuns }
 {
     let count = calls.len().min(answers.len());
-    for i in 0..count {
-        answers[i] = make_call(rig, calls[i]);
+    // By the index: of places lent one by one, as in `iter_mut().zip(..)`, a proof knows no more what they hold.
+    for (i, call) in calls[..count].iter().enumerate() {
+        answers[i] = make_call(rig, *call);
     }
     count
 }

@@ -2,7 +2,8 @@
 use Rattle.std.proofs.Common.{◌≡◌, ℕ, zero, suc, ◌/◌, ◌%◌, ◌^◌, ◌<◌, ◌≤◌, Bool, true, false, cond, List, [], ◌∷◌, length, get_or, sym, refl, ap, ◌∙◌, arith}
 use lib.Bits.{bit_and, bit_xor, and_shr, xor_shr, and_mod, xor_mod}
 use Rattle.bits.specs.Bits.{odd, bit, bits_of, value}
-use Rattle.bits.proofs.Queues.{bit-odd, double, value_bits, bits_value}
+use Rattle.bits.proofs.Queues.{double, bits_value}
+use Rattle.bits.specs.Widths.{bit-odd, value_bits}
 use Rattle.kind.specs.Kinds.{blend_bits, blend}
 
 -- a blend as the code computes it

@@ -1,5 +1,5 @@
 -- Programming, byte by byte.
-use Rattle.std.proofs.Common.{◌≡◌, ℕ, zero, suc, ◌+◌, ◌-◌, ◌*◌, ◌/◌, ◌^◌, ◌<◌, ◌≤◌, Bool, true, false, ◌&&◌, ltb, leb, ◌≢◌, ◌⊎◌, List, [], ◌∷◌, ◌++◌, length, get_or, set, replicate, sym, refl, ap, ◌∙◌, subst, inl, inr, add-zero, zero-add, arith, length-set}
+use Rattle.std.proofs.Common.{◌≡◌, ℕ, zero, suc, ◌+◌, ◌-◌, ◌*◌, ◌/◌, ◌^◌, ◌<◌, ◌≤◌, Bool, true, false, ◌&&◌, ltb, leb, ◌≢◌, ◌⊎◌, List, [], ◌∷◌, ◌++◌, length, get_or, set, sym, refl, ap, ◌∙◌, subst, inl, inr, add-zero, zero-add, arith, length-set}
 use lib.Bits.{bit_and, and_mask}
 use Rattle.std.proofs.lemmas.List.{ext_get_or, get_or-set_same, get_or-set_other, get_or_default, get_or_past}
 use Rattle.std.proofs.lemmas.Bool.{cases_eq, cases_lt}
@@ -168,10 +168,11 @@ bytes_set (b ∷ bs) zero x small h (suc a) = small (suc a)
 bytes_set (b ∷ bs) (suc i) x small h zero = small zero
 bytes_set (b ∷ bs) (suc i) x small h (suc a) = bytes_set bs i x (λ k. small (suc k)) h a
 
-pub bytes_zero : (n : ℕ) → Bytes (replicate n 0)
-bytes_zero zero a = omega arith
-bytes_zero (suc n) zero = omega arith
-bytes_zero (suc n) (suc a) = bytes_zero n a
+-- what a slice of bytes holds is a byte at every address
+pub bytes_of_slice : (m : List ℕ) → ((i : ℕ) → get_or m i 0 < 256) → Bytes m
+bytes_of_slice [] small a = omega arith
+bytes_of_slice (b ∷ bs) small zero = small zero
+bytes_of_slice (b ∷ bs) small (suc a) = bytes_of_slice bs (λ i. small (suc i)) a
 
 -- what holds of each held byte and of each blend into the row holds of every byte after programming
 pub program_each : (P : ℕ → ℕ → Type 0) (w row : ℕ) (new : List ℕ) (mask : ℕ) (m : List ℕ) → ((a : ℕ) → P a (at m a))

@@ -10,6 +10,12 @@ pub record Rules : Type 0 where
   pub load : List ℕ → ℕ → ℕ → ℕ  -- bytes, address, sent byte: the byte to be loaded
   pub copy : List ℕ → ℕ → Bool  -- bytes, row: may it be copied to
 
+-- the constants of a kind are the figures of its rules
+pub record Figures (K : Rules) (n w image : ℕ) : Type 0 where
+  pub readable : n ≡ K.n
+  pub programmable : w ≡ K.w
+  pub image_length : image ≡ K.image
+
 -- the byte at an address, FFh at N and above
 abbrev pub at : List ℕ → ℕ → ℕ
 at m a = slice_index_or m a 255

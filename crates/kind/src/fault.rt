@@ -1,19 +1,21 @@
 ghost use Rattle.std.specs.Prelude.{◌≡◌};
+ghost use Rattle.refusals.specs.Refusals.{number_of};
 ghost use Rattle.kind.specs.Making.{refusal};
 
+use refusals::refusal::Refusal;
+
 // Why no tag is made.
-#[derive(Clone, Copy)]
+#[derive(Clone, Copy, Debug, PartialEq, Eq)]
 pub enum ImageFault {
     WrongLength,
 }
 
 impl ImageFault {
-    // The number of the refusal.
-    pub fn refusal(&self) -> u8
-        ensures { result ≡ refusal self.now }
+    pub fn refusal(&self) -> Refusal
+        ensures { number_of result ≡ refusal self.now }
     {
         match self {
-            ImageFault::WrongLength => 2,
+            ImageFault::WrongLength => Refusal::WrongLength,
         }
     }
 }

@@ -3,7 +3,7 @@ ghost use Rattle.kind.specs.Kinds.{Bytes};
 
 pub mod holding;
 
-// The programmable bytes of a tag.
+// The programmable bytes of a tag. Ghost fields and no model: the laws of each kind read them.
 #[derive(Drop)]
 pub struct Image<const W: usize> {
     bytes: [u8; W],

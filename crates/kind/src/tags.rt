@@ -1,5 +1,5 @@
 ghost use Rattle.std.specs.Prelude.{◌≡◌, ℕ, List, length};
-ghost use Rattle.kind.specs.Kinds.{Rules, Lawful, Bytes, at, program, making};
+ghost use Rattle.kind.specs.Kinds.{Rules, Figures, Lawful, Bytes, at, program, making};
 ghost use Rattle.kind.specs.Making.{made_of};
 
 use crate::fault::ImageFault;
@@ -14,19 +14,15 @@ pub trait Kind: Sized {
 
     const IMAGE: usize;
 
+    ghost N: { ℕ };
+
+    ghost W: { ℕ };
+
+    ghost IMAGE: { ℕ };
+
     ghost rules: { Rules };
 
     ghost bytes: { Self → List ℕ };
-
-    // The constants as values that a contract can name.
-    fn readable() -> usize
-        ensures { result ≡ rules.n };
-
-    fn programmable() -> usize
-        ensures { result ≡ rules.w };
-
-    fn image_length() -> usize
-        ensures { result ≡ rules.image };
 
     // Refusal 2 where the image has another length.
     fn from_image(image: &[u8]) -> Result<Self, ImageFault>
@@ -47,6 +43,8 @@ pub trait Kind: Sized {
     // Programs a row through a mask: the new bit where the mask has a one, the old bit elsewhere.
     fn program(&mut self, row: u16, new: &[u8; ROW], mask: u64)
         ensures { bytes self.new ≡ program rules.w row new.now mask (bytes self.old) };
+
+    ghost figures: { Figures rules N W IMAGE };
 
     ghost lawful: { Lawful rules };
 

@@ -9,7 +9,7 @@ use history::playing::make_call;
 use line::bus::Line;
 use rig::master::Rig;
 
-// What a letter asks, or nothing.
+// What a letter asks, or nothing. A function: both types are other crates', so no `TryFrom` can stand here.
 pub fn event(letter: char) -> Option<Call>
     ensures { event_of result ≡ requested letter }
 {
@@ -24,17 +24,17 @@ pub fn event(letter: char) -> Option<Call>
     }
 }
 
-// What is printed for an answer; no letter asks for a job, so the answers of jobs have no letter.
+// What is printed for an answer; no letter asks for a job, so the answers of jobs have no letter. No `From`, as above.
 pub fn print_of(answer: Answer) -> u8
     ensures { result ≡ printed (reply_of answer) }
 {
     match answer {
-        Answer::Presence(true) => b'p',
-        Answer::Presence(false) => b'-',
-        Answer::Bit(true) => b'1',
-        Answer::Bit(false) => b'0',
+        Answer::Presence(Ok(true)) => b'p',
+        Answer::Presence(Ok(false)) => b'-',
+        Answer::Bit(Ok(true)) => b'1',
+        Answer::Bit(Ok(false)) => b'0',
         Answer::Done => b'.',
-        Answer::Refused(_) => b'!',
+        Answer::Presence(Err(_)) | Answer::Bit(Err(_)) => b'!',
         Answer::Listed { .. } | Answer::Row(_) | Answer::Judged(_) => b'?',
     }
 }
@@ -49,15 +49,17 @@ pub fn play_letter<L: Line>(rig: &mut Rig<L>, letter: char) -> u8
     }
 }
 
-// Plays letters, as many as there are places for what is printed, and says how many.
+// Plays letters, as many as there are places for what is printed, and says how many; the places are lent, since nothing is allocated.
+// Not one function with the playing of calls: with what is done at each as a closure its clauses would be no plainer.
 pub fn play_letters<L: Line>(rig: &mut Rig<L>, input: &[u8], output: &mut [u8]) -> usize
     ensures count { result ≡ min (length input.now) (length output.old) }
     ensures told { (rig_of L.chips rig.new, take result output.new) ≡ script_all (take result input.now) (rig_of L.chips rig.old) }
     ensures later { drop result output.new ≡ drop result output.old }
 {
     let count = input.len().min(output.len());
-    for i in 0..count {
-        output[i] = play_letter(rig, char::from(input[i]));
+    // By the index: of places lent one by one, as in `iter_mut().zip(..)`, a proof knows no more what they hold.
+    for (i, letter) in input[..count].iter().enumerate() {
+        output[i] = play_letter(rig, char::from(*letter));
     }
     count
 }

@@ -1,2 +1,3 @@
 pub mod Scratchpads
 pub mod Memories
+pub mod Commands

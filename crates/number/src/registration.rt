@@ -4,6 +4,7 @@ ghost use Rattle.number.specs.Numbers.{Checked};
 pub mod making;
 
 // A registration number: family code, six serial bytes and the CRC-8 of those seven, the family code in the lowest byte.
+// Ghost fields and no model: whoever holds a number learns from them that its check byte is right.
 #[derive(Clone, Copy)]
 pub struct Number {
     word: u64,
@@ -12,7 +13,7 @@ pub struct Number {
 }
 
 // Why no number is made.
-#[derive(Clone, Copy)]
+#[derive(Clone, Copy, Debug, PartialEq, Eq)]
 pub enum NumberFault {
     WrongSum,
 }

@@ -1,5 +1,6 @@
 -- What the answers of the code mean.
 use Rattle.std.specs.Prelude.{◌≡◌, ℕ, Bool, List, Some, None, Ok, Err, Option, Result}
+use Rattle.refusals.specs.Refusals.{number_of as numbered}
 use Rattle.rig.specs.Meaning.{Counting, refusal as rig_refusal}
 use Rattle.rig.specs.declared.fault.RigFault.TheVariants.{LineBusy}
 use Rattle.wire.specs.Jobs.{Ran, done, line_busy, run}
@@ -20,10 +21,10 @@ order_verdict (Err (InExchange (Failed why e s))) = refuses (number_of why) e s
 order_verdict (Err (Differs i s)) = refuses_at 7 2 i s
 order_verdict (Err (NotHeld i s)) = refuses_at 8 5 i s
 
--- the numbers that a fault gives
+-- what a fault gives
 abbrev pub refused_by : Refused → Option ℕ → Verdict
-refused_by r None = refuses r.number r.exchange r.steps
-refused_by r (Some i) = refuses_at r.number r.exchange i r.steps
+refused_by r None = refuses (numbered r.refusal) r.exchange r.steps
+refused_by r (Some i) = refuses_at (numbered r.refusal) r.exchange i r.steps
 
 -- how a run ends that has this outcome
 abbrev pub order_end : Counting → Result (Bool × ℕ) OrderFault → Ran Ending

@@ -2,10 +2,11 @@ ghost use Rattle.std.specs.Prelude.{◌≡◌, Err};
 ghost use Rattle.order.specs.Meaning.{order_verdict, refused_by};
 ghost use Rattle.order.specs.declared.fault.OrderFault.TheVariants.{Exchange};
 
+use refusals::refusal::Refusal;
 use wire::fault::{ExchangeFault, Refused};
 
 // Why an order was refused or failed.
-#[derive(Clone, Copy)]
+#[derive(Clone, Copy, Debug, PartialEq, Eq)]
 pub enum OrderFault {
     BadRow,
     Exchange(ExchangeFault),
@@ -15,17 +16,18 @@ pub enum OrderFault {
     NotHeld { index: usize, steps: u32 },
 }
 
+// No trait shared with the other jobs' faults: an order tells an index too.
 impl OrderFault {
-    // The refusal's number, the exchange and the steps made; and the first index that differs, of 7 and 8.
+    // The refusal, the exchange and the steps made; and the first index that differs, of 7 and 8.
     pub fn refused(&self) -> (Refused, Option<usize>)
         ensures { refused_by result.0 result.1 ≡ order_verdict (Err self.now) }
     {
         match self {
-            OrderFault::BadRow => (Refused::at_once(4), None),
+            OrderFault::BadRow => (Refused::at_once(Refusal::BadRow), None),
             OrderFault::Exchange(fault) => (fault.refused(), None),
             OrderFault::Differs { index, steps } => (
                 Refused {
-                    number: 7,
+                    refusal: Refusal::DataDiffer,
                     exchange: 2,
                     steps: *steps,
                 },
@@ -33,7 +35,7 @@ impl OrderFault {
             ),
             OrderFault::NotHeld { index, steps } => (
                 Refused {
-                    number: 8,
+                    refusal: Refusal::NotHeld,
                     exchange: 5,
                     steps: *steps,
                 },

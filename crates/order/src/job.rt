@@ -11,20 +11,20 @@ use line::bus::Line;
 use number::registration::Number;
 use reading::exchanges::{close, find};
 use rig::master::Rig;
+use wire::target::Target;
 use writing::differences::first_difference;
 use writing::exchanges::{check, copy, load};
 
 // Exchanges 3 to 5, once the scratchpad holds what was ordered.
 fn conclude<L: Line>(
     rig: &mut Rig<L>,
-    number: Number,
-    row: u16,
+    target: Target,
     new: &[u8; ROW],
 ) -> Result<(bool, u32), OrderFault>
-    ensures { Concluded number.word row new.now (counting L.chips rig.old) (counting L.chips rig.new) result }
+    ensures { Concluded target.number.word target.row new.now (counting L.chips rig.old) (counting L.chips rig.new) result }
 {
-    let programmed = copy(rig, number, row)?;
-    let found = find(rig, number, row, 4)?;
+    let programmed = copy(rig, target)?;
+    let found = find(rig, target, 4)?;
     close(rig, 5)?;
     judge(programmed, new, &found, rig.steps())
 }
@@ -46,21 +46,20 @@ fn judge(
 
 fn order_steps<L: Line>(
     rig: &mut Rig<L>,
-    number: Number,
-    row: u16,
+    target: Target,
     new: &[u8; ROW],
 ) -> Result<(bool, u32), OrderFault>
-    ensures { Ordered number.word row new.now (counting L.chips rig.old) (counting L.chips rig.new) result }
+    ensures { Ordered target.number.word target.row new.now (counting L.chips rig.old) (counting L.chips rig.new) result }
 {
-    load(rig, number, row, new)?;
-    let loaded = check(rig, number, row)?;
+    load(rig, target, new)?;
+    let loaded = check(rig, target)?;
     if let Some(index) = first_difference(new, &loaded) {
         return Err(OrderFault::Differs {
             index,
             steps: rig.steps(),
         });
     }
-    conclude(rig, number, row, new)
+    conclude(rig, target, new)
 }
 
 // Orders eight bytes to a row. Held: whether the tag has programmed, and the steps made.
@@ -80,5 +79,5 @@ pub fn order<L: Line>(
         return Err(OrderFault::BadRow);
     }
     rig.begin_count();
-    order_steps(rig, number, row, new)
+    order_steps(rig, Target { number, row }, new)
 }

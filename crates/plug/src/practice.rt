@@ -1,4 +1,4 @@
-ghost use Rattle.plug.specs.Laws.{plug_lawful};
+ghost use Rattle.plug.specs.Laws.{plug_figures, plug_lawful};
 ghost use Rattle.plug.specs.Plug.{plug};
 
 use kind::fault::ImageFault;
@@ -12,6 +12,7 @@ pub struct PracticePlug {
     image: Image<64>,
 }
 
+// What every kind says of its image is a line here: a body in the trait would need `Image` of a computed constant.
 impl Kind for PracticePlug {
     const N: usize = 64;
 
@@ -19,9 +20,17 @@ impl Kind for PracticePlug {
 
     const IMAGE: usize = 64;
 
+    ghost N = { 64 };
+
+    ghost W = { 64 };
+
+    ghost IMAGE = { 64 };
+
     ghost rules = { plug };
 
     ghost bytes = { λ p. p.image.bytes };
+
+    ghost figures = { plug_figures };
 
     ghost lawful = { plug_lawful };
 
@@ -29,21 +38,9 @@ impl Kind for PracticePlug {
 
     ghost small = { λ p. p.image.small };
 
-    fn readable() -> usize {
-        Self::N
-    }
-
-    fn programmable() -> usize {
-        Self::W
-    }
-
-    fn image_length() -> usize {
-        Self::IMAGE
-    }
-
     fn from_image(image: &[u8]) -> Result<PracticePlug, ImageFault> {
         Ok(PracticePlug {
-            image: Image::from_slice(image)?,
+            image: Image::try_from(image)?,
         })
     }
 

@@ -5,25 +5,23 @@ ghost use Rattle.reading.specs.Readings.{asks, finds, closes};
 
 use kind::rows::ROW;
 use line::bus::Line;
+use memory::command::MemoryCommand;
 use number::registration::Number;
 use rig::master::Rig;
-use wire::bytes::{read_bytes, send_bytes};
+use wire::bytes::{read_bytes, send_byte, send_bytes};
 use wire::fault::{ExchangeFault, Why};
-use wire::opening::begin;
+use wire::opening::{begin, expect_presence};
+use wire::target::Target;
 
 // AAh and three bytes; three times FFh is garbled.
 pub fn ask<L: Line>(rig: &mut Rig<L>, number: Number) -> Result<(), ExchangeFault>
     ensures { Told (asks number.word) (counting L.chips rig.old) (counting L.chips rig.new) result }
 {
     begin(rig, number, 1)?;
-    send_bytes(rig, &[0xAA])?;
+    send_byte(rig, MemoryCommand::ReadScratchpad.byte())?;
     let got = read_bytes::<L, 3>(rig)?;
-    if got[0] == 0xFF && got[1] == 0xFF && got[2] == 0xFF {
-        return Err(ExchangeFault::Failed {
-            why: Why::Garbled,
-            exchange: 1,
-            steps: rig.steps(),
-        });
+    if got == [0xFF; 3] {
+        return Err(ExchangeFault::found(rig, Why::Garbled, 1));
     }
     Ok(())
 }
@@ -31,14 +29,13 @@ pub fn ask<L: Line>(rig: &mut Rig<L>, number: Number) -> Result<(), ExchangeFaul
 // F0h with the row's address, and its bytes.
 pub fn find<L: Line>(
     rig: &mut Rig<L>,
-    number: Number,
-    row: u16,
+    target: Target,
     exchange: u8,
 ) -> Result<[u8; ROW], ExchangeFault>
-    ensures { Told (finds exchange number.word row) (counting L.chips rig.old) (counting L.chips rig.new) result }
+    ensures { Told (finds exchange target.number.word target.row) (counting L.chips rig.old) (counting L.chips rig.new) result }
 {
-    begin(rig, number, exchange)?;
-    send_bytes(rig, &[0xF0, (row % 256) as u8, (row / 256) as u8])?;
+    begin(rig, target.number, exchange)?;
+    send_bytes(rig, &target.addressed(MemoryCommand::ReadMemory))?;
     let found = read_bytes::<L, ROW>(rig)?;
     Ok(found)
 }
@@ -47,12 +44,5 @@ pub fn find<L: Line>(
 pub fn close<L: Line>(rig: &mut Rig<L>, exchange: u8) -> Result<(), ExchangeFault>
     ensures { Told (closes exchange) (counting L.chips rig.old) (counting L.chips rig.new) result }
 {
-    if !rig.reset()? {
-        return Err(ExchangeFault::Failed {
-            why: Why::NoPresence,
-            exchange,
-            steps: rig.steps(),
-        });
-    }
-    Ok(())
+    expect_presence(rig, exchange)
 }

@@ -1,24 +1,27 @@
 ghost use Rattle.std.specs.Prelude.{◌≡◌, ℕ, List, [], Err};
+ghost use Rattle.refusals.specs.Refusals.{number_of as numbered};
 ghost use Rattle.wire.specs.Jobs.{Report, refused_as};
 ghost use Rattle.reading.specs.Meaning.{read_report};
 ghost use Rattle.reading.specs.declared.fault.ReadFault.TheVariants.{Exchange};
 
+use refusals::refusal::Refusal;
 use wire::fault::{ExchangeFault, Refused};
 
 // Why a reading was refused or failed.
-#[derive(Clone, Copy)]
+#[derive(Clone, Copy, Debug, PartialEq, Eq)]
 pub enum ReadFault {
     BadRow,
     Exchange(ExchangeFault),
 }
 
+// No trait for the faults of the three jobs: no code goes over faults of any job, and each tells its own report.
 impl ReadFault {
-    // The refusal's number, the exchange and the steps made.
+    // The refusal, the exchange and the steps made.
     pub fn refused(&self) -> Refused
-        ensures { ◌≡◌ {A = Report (List ℕ)} (refused_as result.number result.exchange result.steps) (read_report (Err self.now) []) }
+        ensures { ◌≡◌ {A = Report (List ℕ)} (refused_as (numbered result.refusal) result.exchange result.steps) (read_report (Err self.now) []) }
     {
         match self {
-            ReadFault::BadRow => Refused::at_once(4),
+            ReadFault::BadRow => Refused::at_once(Refusal::BadRow),
             ReadFault::Exchange(fault) => fault.refused(),
         }
     }

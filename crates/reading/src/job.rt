@@ -12,16 +12,13 @@ use kind::rows::ROW;
 use line::bus::Line;
 use number::registration::Number;
 use rig::master::Rig;
+use wire::target::Target;
 
-fn read_steps<L: Line>(
-    rig: &mut Rig<L>,
-    number: Number,
-    row: u16,
-) -> Result<([u8; ROW], u32), ReadFault>
-    ensures { Read number.word row (counting L.chips rig.old) (counting L.chips rig.new) result }
+fn read_steps<L: Line>(rig: &mut Rig<L>, target: Target) -> Result<([u8; ROW], u32), ReadFault>
+    ensures { Read target.number.word target.row (counting L.chips rig.old) (counting L.chips rig.new) result }
 {
-    ask(rig, number)?;
-    let found = find(rig, number, row, 2)?;
+    ask(rig, target.number)?;
+    let found = find(rig, target, 2)?;
     close(rig, 3)?;
     Ok((found, rig.steps()))
 }
@@ -46,7 +43,7 @@ pub fn read_row<L: Line>(
         return Err(ReadFault::BadRow);
     }
     rig.begin_count();
-    let (found, steps) = read_steps(rig, number, row)?;
+    let (found, steps) = read_steps(rig, Target { number, row })?;
     *into = found;
     Ok(steps)
 }

@@ -1,22 +1,35 @@
 ghost use Rattle.std.specs.Prelude.{◌≡◌, ◌+◌, ◌%◌, ◌<◌, MatchOption};
 
+use std::marker::Model;
+
 // A place within a row.
 #[derive(Clone, Copy)]
 pub struct Offset {
     at: u8,
-    ghost within: { at < 8 },
+}
+
+impl Model for Offset {
+    ghost use Rattle.std.specs.Prelude.{ℕ, ◌<◌};
+
+    ghost Value = { ℕ };
+
+    ghost view = { λ o. o.at };
+
+    ghost invariant = { λ o. o.at < 8 };
+
+    ghost inverse = { λ at. record { at = at } };
 }
 
 impl Offset {
     // The place of an address, by its low byte.
     pub fn of(low: u8) -> Offset
-        ensures { result.at ≡ low % 8 }
+        ensures { result ≡ low % 8 }
     {
         Offset { at: low % 8 }
     }
 
     pub fn at(&self) -> u8
-        ensures value { result ≡ self.now.at }
+        ensures value { result ≡ self.now }
         ensures within { result < 8 }
     {
         self.at
@@ -24,7 +37,7 @@ impl Offset {
 
     // The next place, or none after the last.
     pub fn next(self) -> Option<Offset>
-        ensures { MatchOption result (self.at ≡ 7) (λ o. (o.at ≡ self.at + 1) × (self.at < 7)) }
+        ensures { MatchOption result (self ≡ 7) (λ o. (o ≡ self + 1) × (self < 7)) }
     {
         if self.at < 7 {
             Some(Offset { at: self.at + 1 })

@@ -49,13 +49,14 @@ impl Registers {
         ensures value { result ≡ row_of (regs_of self.now) }
         ensures bound { result + 8 ≤ 65536 }
     {
-        (self.ta1 - self.ta1 % 8) as u16 + 256 * self.ta2 as u16
+        u16::from_le_bytes([self.ta1 - self.ta1 % 8, self.ta2])
     }
 
     // Byte `next` of what AAh sends before the sum.
     pub fn reported(&self, next: u8) -> Option<u8>
         ensures { Nexts (report (regs_of self.now)) next result }
     {
+        // By place, each byte from another register: for `nth` of a chain of both parts no proof was found.
         match next {
             0 => Some(self.ta1),
             1 => Some(self.ta2),

@@ -1,19 +1,22 @@
 ghost use Rattle.std.specs.Prelude.{◌≡◌};
+ghost use Rattle.refusals.specs.Refusals.{number_of};
 ghost use Rattle.rig.specs.Meaning.{refusal};
 
+use refusals::refusal::Refusal;
+
 // Why a rig refuses a pulse.
-#[derive(Clone, Copy)]
+#[derive(Clone, Copy, Debug, PartialEq, Eq)]
 pub enum RigFault {
     LineBusy,
 }
 
+// A method as of every fault: `From` for `Refusal` would read no plainer at a call.
 impl RigFault {
-    // The number of the refusal.
-    pub fn refusal(&self) -> u8
-        ensures { result ≡ refusal self.now }
+    pub fn refusal(&self) -> Refusal
+        ensures { number_of result ≡ refusal self.now }
     {
         match self {
-            RigFault::LineBusy => 3,
+            RigFault::LineBusy => Refusal::LineBusy,
         }
     }
 }

@@ -1,18 +1,21 @@
-ghost use Rattle.std.specs.Prelude.{◌≡◌};
+ghost use Rattle.std.specs.Prelude.{◌≡◌, true, false};
+ghost use Rattle.std.specs.Fn.{FnOnceReturnsAtMut};
 ghost use Rattle.rig.specs.Rigs.{resets, slots, dwells, pulse, made_rig, cut_rig, power_rig, set_fuse, counted};
 ghost use Rattle.rig.specs.Meaning.{rig_of, counting, beat, blows, lowered, cut_by};
 
 use crate::fault::RigFault;
+use chip::step::Step;
 use line::bus::Line;
 
 // Cuts power at the step that comes after `count` more, with a mask.
-#[derive(Clone, Copy)]
+#[derive(Clone, Copy, Debug, PartialEq, Eq)]
 pub struct Fuse {
     pub count: u32,
     pub mask: u64,
 }
 
 // A line with a fuse, and the steps since they were last set to 0.
+// No `impl Model`: the value of a line holds the rules of its tags, which are functions, and a function has no code.
 #[derive(Drop)]
 pub struct Rig<L> {
     line: L,
@@ -48,13 +51,13 @@ impl<L: Line> Rig<L> {
     pub fn power_up(&mut self)
         ensures { counting L.chips self.new ≡ record { rig = power_rig (rig_of L.chips self.old); steps = self.old.steps } }
     {
-        self.line.power_up();
+        self.line.step(Step::PowerUp);
     }
 
     pub fn cut(&mut self, mask: u64)
         ensures { counting L.chips self.new ≡ record { rig = cut_rig mask (rig_of L.chips self.old); steps = self.old.steps } }
     {
-        self.line.cut(mask);
+        self.line.step(Step::Cut(mask));
     }
 
     // Replaces the fuse.
@@ -69,13 +72,14 @@ impl<L: Line> Rig<L> {
         ensures answer { result ≡ blows self.old.fuse }
         ensures fuse { self.new.fuse ≡ lowered self.old.fuse }
         ensures line { L.chips self.new.line ≡ cut_by self.old.fuse (L.chips self.old.line) }
+        ensures kept { blows self.old.fuse ≡ false → self.new.line ≡ self.old.line }
         ensures steps { self.new.steps ≡ counted self.old.steps }
     {
         self.steps = self.steps.saturating_add(1);
         match self.fuse {
             None => false,
             Some(Fuse { count: 0, mask }) => {
-                self.line.cut(mask);
+                self.line.step(Step::Cut(mask));
                 self.fuse = None;
                 true
             }
@@ -89,6 +93,21 @@ impl<L: Line> Rig<L> {
         }
     }
 
+    // A step: the line is driven, unless the step becomes a cut; that is answered as told.
+    fn step<F: FnOnce(&mut L) -> bool>(&mut self, deaf: bool, drive: F) -> bool
+        requires { F.IsAlwaysCallable drive }
+        ensures fuse { self.new.fuse ≡ lowered self.old.fuse }
+        ensures steps { self.new.steps ≡ counted self.old.steps }
+        ensures cut { blows self.old.fuse ≡ true → (result ≡ deaf) × (L.chips self.new.line ≡ cut_by self.old.fuse (L.chips self.old.line)) }
+        ensures driven { blows self.old.fuse ≡ false → FnOnceReturnsAtMut F.FnOnce drive self.old.line result self.new.line }
+    {
+        if self.burn() {
+            deaf
+        } else {
+            drive(&mut self.line)
+        }
+    }
+
     // Presence; refusal 3 while the line is busy.
     pub fn reset(&mut self) -> Result<bool, RigFault>
         ensures { (counting L.chips self.new, result) ≡ beat resets (counting L.chips self.old) }
@@ -96,12 +115,11 @@ impl<L: Line> Rig<L> {
         if self.line.busy() {
             return Err(RigFault::LineBusy);
         }
-        if self.burn() {
-            return Ok(false);
-        }
-        let present = self.line.presence();
-        self.line.reset();
-        Ok(present)
+        Ok(self.step(false, |line| {
+            let present = line.presence();
+            line.step(Step::Reset);
+            present
+        }))
     }
 
     // The master's bit AND the pull, which the line takes; refusal 3 while the line is busy.
@@ -111,19 +129,19 @@ impl<L: Line> Rig<L> {
         if self.line.busy() {
             return Err(RigFault::LineBusy);
         }
-        if self.burn() {
-            return Ok(bit);
-        }
-        let seen = bit & self.line.pull();
-        self.line.take(seen);
-        Ok(seen)
+        Ok(self.step(bit, |line| {
+            let seen = bit & line.pull();
+            line.step(Step::Take(seen));
+            seen
+        }))
     }
 
     pub fn dwell(&mut self)
         ensures { counting L.chips self.new ≡ record { rig = (pulse dwells (rig_of L.chips self.old)).0; steps = counted self.old.steps } }
     {
-        if !self.burn() {
-            self.line.dwell();
-        }
+        self.step(true, |line| {
+            line.step(Step::Dwell);
+            true
+        });
     }
 }

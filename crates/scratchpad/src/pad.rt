@@ -1,20 +1,24 @@
-ghost use Rattle.std.specs.Prelude.{◌≡◌, drop};
+ghost use Rattle.std.specs.Prelude.{◌≡◌, [], ◌∷◌, drop};
 ghost use Rattle.bits.specs.Bits.{bits_all};
+ghost use Rattle.sums.specs.Sums.{crc16};
+ghost use Rattle.memory.specs.Commands.{meant};
 ghost use Rattle.memory.specs.Memories.{padded};
-ghost use Rattle.memory.specs.Scratchpads.{fresh, on, sending, idle, working, take_pad, got_byte, obey, command_of, copies, load_data, report};
+ghost use Rattle.memory.specs.Scratchpads.{burn_pad, fresh, on, sending, idle, working, take_pad, got_byte, obey, copies, load_data, report};
 ghost use Rattle.registers.specs.Meaning.{regs_of};
 ghost use Rattle.scratchpad.specs.Meaning.{model, doing, closing, Awaits, awaited};
 
 use crate::phase::{Await, Phase};
-use bits::shift::{Incoming, Outgoing, Pushed};
+use bits::shift::{Incoming, Outgoing};
 use kind::rows::WHOLE_ROW;
 use kind::tags::Kind;
+use memory::command::{MemoryCommand, UnknownCommand};
 use memory::protocol::Protocol;
 use registers::offset::Offset;
 use registers::registers::Registers;
 use sums::sums::{crc16, crc16_more};
 
 // The memory of a chip: registers and scratchpad beside the kind.
+// No `impl Model`: its value holds the rules of the kind, which are functions, and a function has no code.
 #[derive(Drop)]
 pub struct PadMemory<K> {
     phase: Phase,
@@ -33,15 +37,28 @@ impl<K: Kind> PadMemory<K> {
         }
     }
 
+    // A row being programmed takes the scratchpad through a mask.
+    fn take_row(&mut self, mask: u64)
+        ensures bytes { model K.rules K.bytes self.new ≡ burn_pad (model K.rules K.bytes self.old) mask }
+        ensures phase { self.new.phase ≡ self.old.phase }
+        ensures registers { self.new.regs ≡ self.old.regs }
+    {
+        if let Phase::Programming = self.phase {
+            let row = self.regs.row();
+            let new = self.regs.pad;
+            self.kind.program(row, &new, mask);
+        }
+    }
+
     // One taken bit.
     fn bit(&mut self, bit: bool)
         ensures { model K.rules K.bytes self.new ≡ take_pad (model K.rules K.bytes self.old) bit }
     {
         match (self.phase, bit) {
             (Phase::Idle | Phase::Programming | Phase::SendOnes, _) => {}
-            (Phase::Taking { what, bits }, b) => match bits.push(b) {
-                Pushed::More(bits) => self.phase = Phase::Taking { what, bits },
-                Pushed::Byte(byte) => self.got_byte(what, byte),
+            (Phase::Taking { what, mut bits }, b) => match bits.push(b) {
+                None => self.phase = Phase::Taking { what, bits },
+                Some(byte) => self.got_byte(what, byte),
             },
             (Phase::SendReport { next, sum, out }, _) => match out.next() {
                 Some(out) => self.phase = Phase::SendReport { next, sum, out },
@@ -67,10 +84,10 @@ impl<K: Kind> PadMemory<K> {
             Some(byte) => Phase::SendReport {
                 next: next + 1,
                 sum: crc16_more(sum, byte),
-                out: Outgoing::byte(byte),
+                out: Outgoing::from(byte),
             },
             None => Phase::SendSum {
-                rest: Outgoing::pair(!sum),
+                rest: Outgoing::from(!sum),
             },
         }
     }
@@ -79,10 +96,10 @@ impl<K: Kind> PadMemory<K> {
     fn memory_from(&self, address: u16) -> Phase
         ensures { doing (regs_of self.now.regs) (K.bytes self.now.kind) result ≡ sending (bits_all (drop address (K.bytes self.now.kind))) }
     {
-        if (address as usize) < K::readable() {
+        if (address as usize) < K::N {
             Phase::SendMemory {
                 next: address + 1,
-                out: Outgoing::byte(self.kind.read(address)),
+                out: Outgoing::from(self.kind.read(address)),
             }
         } else {
             Phase::SendOnes
@@ -94,7 +111,10 @@ impl<K: Kind> PadMemory<K> {
         ensures { model K.rules K.bytes self.new ≡ working (model K.rules K.bytes self.old) (got_byte K.rules (K.bytes self.old.kind) (awaited what) byte (regs_of self.old.regs)) }
     {
         match what {
-            Await::Command => self.obey(byte),
+            Await::Command => match MemoryCommand::try_from(byte) {
+                Ok(command) => self.obey(command),
+                Err(UnknownCommand(_)) => self.phase = Phase::Idle,
+            },
             Await::LoadLow => {
                 self.regs.ta1 = byte;
                 self.regs.e = Offset::of(byte);
@@ -102,7 +122,7 @@ impl<K: Kind> PadMemory<K> {
             }
             Await::LoadHigh => {
                 self.regs.ta2 = byte;
-                let sum = crc16(&[0x0F, self.regs.ta1, byte]);
+                let sum = head_sum(self.regs.ta1, byte);
                 self.phase = awaiting(Await::LoadData {
                     offset: Offset::of(self.regs.ta1),
                     sum,
@@ -117,9 +137,9 @@ impl<K: Kind> PadMemory<K> {
             }
             Await::CopyStatus { .. } => self.phase = Phase::Idle,
             Await::ReadLow => self.phase = awaiting(Await::ReadHigh { low: byte }),
-            Await::ReadHigh { low } => self.phase = self.memory_from(
-                low as u16 + 256 * byte as u16,
-            ),
+            Await::ReadHigh { low } => self.phase = self.memory_from(u16::from_le_bytes([
+                low, byte,
+            ])),
         }
     }
 
@@ -135,25 +155,26 @@ impl<K: Kind> PadMemory<K> {
     }
 
     // A command of the memory phase.
-    fn obey(&mut self, command: u8)
-        ensures { model K.rules K.bytes self.new ≡ working (model K.rules K.bytes self.old) (obey K.rules (K.bytes self.old.kind) (command_of command) (regs_of self.old.regs)) }
+    fn obey(&mut self, command: MemoryCommand)
+        ensures { model K.rules K.bytes self.new ≡ working (model K.rules K.bytes self.old) (obey K.rules (K.bytes self.old.kind) (meant command) (regs_of self.old.regs)) }
     {
         match command {
-            0x0F => {
+            MemoryCommand::WriteScratchpad => {
                 self.regs.pf = true;
                 self.regs.aa = false;
                 self.phase = awaiting(Await::LoadLow);
             }
-            0xAA => self.phase = self.report_from(0, crc16_more(0, 0xAA)),
-            0x55 => self.phase = awaiting(Await::CopyLow),
-            0xF0 => self.phase = awaiting(Await::ReadLow),
-            _ => self.phase = Phase::Idle,
+            MemoryCommand::ReadScratchpad => {
+                self.phase = self.report_from(0, crc16_more(0, command.byte()));
+            }
+            MemoryCommand::CopyScratchpad => self.phase = awaiting(Await::CopyLow),
+            MemoryCommand::ReadMemory => self.phase = awaiting(Await::ReadLow),
         }
     }
 
     // The data byte at an offset of the target's row.
     fn data_byte(&mut self, offset: Offset, sum: u16, byte: u8)
-        ensures { model K.rules K.bytes self.new ≡ working (model K.rules K.bytes self.old) (got_byte K.rules (K.bytes self.old.kind) (load_data offset.at sum) byte (regs_of self.old.regs)) }
+        ensures { model K.rules K.bytes self.new ≡ working (model K.rules K.bytes self.old) (got_byte K.rules (K.bytes self.old.kind) (load_data offset sum) byte (regs_of self.old.regs)) }
     {
         let at = offset.at();
         let loaded = self.kind.load(self.regs.row() + at as u16, byte);
@@ -165,11 +186,18 @@ impl<K: Kind> PadMemory<K> {
             None => {
                 self.regs.pf &= self.regs.ta1 % 8 != 0;
                 self.phase = Phase::SendSum {
-                    rest: Outgoing::pair(!sum),
+                    rest: Outgoing::from(!sum),
                 };
             }
         }
     }
+}
+
+// The sum of what is sent before the data: the command and the target.
+fn head_sum(low: u8, high: u8) -> u16
+    ensures { result ≡ crc16 0 (0x0F ∷ low ∷ high ∷ []) }
+{
+    crc16(&[MemoryCommand::WriteScratchpad.byte(), low, high])
 }
 
 // Begins to take a byte.
@@ -212,19 +240,13 @@ impl<K: Kind> Protocol for PadMemory<K> {
     }
 
     fn dwell(&mut self) {
-        if let Phase::Programming = self.phase {
-            let row = self.regs.row();
-            let new = self.regs.pad;
-            self.kind.program(row, &new, WHOLE_ROW);
+        self.take_row(WHOLE_ROW);
+        if self.programming() {
             self.phase = Phase::Alternating { bit: false };
         }
     }
 
     fn burn(&mut self, mask: u64) {
-        if let Phase::Programming = self.phase {
-            let row = self.regs.row();
-            let new = self.regs.pad;
-            self.kind.program(row, &new, mask);
-        }
+        self.take_row(mask);
     }
 }

@@ -1,47 +1,45 @@
 #![tactic(auto)]
 
-use anyhow::anyhow;
-use kind::tags::Kind;
 use letters::script::play_letters;
-use line::ends::OneTag;
-use number::registration::Number;
-use plug::practice::PracticePlug;
 use rig::master::Rig;
-use scratchpad::pad::PadMemory;
+use samples::numbers::PLUG;
+use samples::plugs::Plug;
+use samples::tags::tag_of;
 use std::io::{Read, Write};
-use tag::making::make_tag;
 
-// A practice plug without power: number eight 00h, 64 zero bytes.
-fn plug() -> anyhow::Result<OneTag<PadMemory<PracticePlug>>> {
-    let Ok(number) = Number::new(0) else {
-        return Err(anyhow!("no number"));
-    };
-    let mut place = None;
-    if make_tag(&mut place, number, &[0; 64]).is_err() {
-        return Err(anyhow!("no tag"));
-    }
-    match place {
-        Some(tag) => Ok(tag),
-        None => Err(anyhow!("no tag")),
-    }
+// A practice plug on a rig, and the runtime that brings letters and takes answers.
+#[derive(Drop)]
+struct Session<'a> {
+    rt: &'a HostRuntime,
+    rig: Rig<Plug>,
 }
 
-// Answers what has arrived before it waits for more.
+// Plays a practice plug of 64 zero bytes.
 fn main(rt: HostRuntime) -> anyhow::Result<()> {
-    let mut rig = Rig::new(plug()?);
-    let mut input = [0u8; 4096];
-    let mut output = [0u8; 4096];
-    let mut source = rt.stdin();
-    let mut sink = rt.stdout();
-    for _ in 0..u64::MAX {
-        let arrived = source.read(&mut input)?;
-        if arrived == 0 {
-            break;
+    let rig = Rig::new(tag_of(PLUG, &[0; 64])?);
+    let mut session = Session { rt: &rt, rig };
+    session.run()
+}
+
+impl Session<'_> {
+    // Answers what has arrived before it waits for more.
+    fn run(&mut self) -> anyhow::Result<()> {
+        // `read` fills the front of a buffer and says how much of it.
+        let mut input = [0u8; 4096];
+        let mut output = [0u8; 4096];
+        let mut source = self.rt.stdin();
+        let mut sink = self.rt.stdout();
+        // Counted, since where the input ends is not known.
+        for _ in 0..u64::MAX {
+            let arrived = source.read(&mut input)?;
+            if arrived == 0 {
+                break;
+            }
+            let answered = play_letters(&mut self.rig, &input[..arrived], &mut output);
+            sink.write_all(&output[..answered])?;
+            sink.flush()?;
         }
-        let answered = play_letters(&mut rig, &input[0..arrived], &mut output);
-        sink.write_all(&output[0..answered])?;
-        sink.flush()?;
+        sink.write_all(b"\n")?;
+        Ok(())
     }
-    sink.write_all(b"\n")?;
-    Ok(())
 }

@@ -1,3 +1,4 @@
 pub mod Sealed
 pub mod Protection
 pub mod Registers
+pub mod Locks

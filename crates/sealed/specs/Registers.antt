@@ -4,7 +4,7 @@ use Rattle.std.proofs.Common.{arith, length-append, rules}
 use Rattle.std.specs.Int.Bits.{and_self}
 use Rattle.std.proofs.lemmas.Nat.{and_le_r}
 use Rattle.std.proofs.lemmas.Bool.Decides.{nat_tests}
-use Rattle.kind.specs.Kinds.{at, Bytes, Lawful}
+use Rattle.kind.specs.Kinds.{at, Bytes, Figures, Lawful}
 use Rattle.sealed.specs.Sealed.{protected, eprom, load, made, sealed}
 
 ones : (n a : ℕ) → at (replicate n 255) a ≡ 255
@@ -43,6 +43,9 @@ load_held m a =
 -- an image of 136 bytes is read as 144
 pub made_length : (m : List ℕ) → length m ≡ 136 → length (made m) ≡ 144
 made_length m h = simp length-append (omega arith)
+
+pub sealed_figures : Figures sealed 144 136 136
+sealed_figures = record { readable = refl; programmable = refl; image_length = refl }
 
 pub sealed_lawful : Lawful sealed
 sealed_lawful = record {

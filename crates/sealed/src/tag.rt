@@ -1,15 +1,12 @@
 ghost use Rattle.std.specs.Prelude.{◌≡◌};
 ghost use Rattle.sealed.specs.Sealed.{sealed, made, locked, control};
-ghost use Rattle.sealed.specs.Registers.{sealed_lawful, made_length, bytes_made};
+ghost use Rattle.sealed.specs.Locks.{Says};
+ghost use Rattle.sealed.specs.Registers.{sealed_figures, sealed_lawful, made_length, bytes_made};
 
 use kind::fault::ImageFault;
 use kind::image::Image;
 use kind::rows::ROW;
 use kind::tags::Kind;
-
-const WRITE_PROTECTED: u8 = 0x55;
-
-const EPROM_MODE: u8 = 0xaa;
 
 // Where the registers begin, and those that lock others.
 const REGISTERS: u16 = 0x80;
@@ -17,6 +14,31 @@ const REGISTERS: u16 = 0x80;
 const COPY_LOCK: u16 = 0x84;
 
 const FACTORY: u16 = 0x85;
+
+// The two bytes that FACTORY locks.
+const ID_LOW: u16 = 0x86;
+
+const ID_HIGH: u16 = 0x87;
+
+// What a control byte says of its page, and a register of what it locks.
+#[derive(Clone, Copy, Debug, PartialEq, Eq)]
+enum Lock {
+    Open,
+    WriteProtected,
+    EpromMode,
+}
+
+impl From<u8> for Lock {
+    ghost from_gives = { Says };
+
+    fn from(byte: u8) -> Lock {
+        match byte {
+            0x55 => Lock::WriteProtected,
+            0xaa => Lock::EpromMode,
+            _ => Lock::Open,
+        }
+    }
+}
 
 #[derive(Drop)]
 pub struct SealedTag {
@@ -27,18 +49,20 @@ pub struct SealedTag {
 fn locks(byte: u8) -> bool
     ensures { result ≡ locked byte }
 {
-    byte == WRITE_PROTECTED || byte == EPROM_MODE
+    let lock = Lock::from(byte);
+    lock == Lock::WriteProtected || lock == Lock::EpromMode
 }
 
 impl SealedTag {
-    // The control byte of an address's page.
-    fn control(&self, address: u16) -> u8
-        ensures { result ≡ control (made self.now.image.bytes) address }
+    // What the control byte of an address's page says.
+    fn control(&self, address: u16) -> Lock
+        ensures { Says (control (made self.now.image.bytes) address) result }
     {
-        self.read(REGISTERS + address / 32)
+        Lock::from(self.read(REGISTERS + address / 32))
     }
 }
 
+// What every kind says of its image is a line here: a body in the trait would need `Image` of a computed constant.
 impl Kind for SealedTag {
     const N: usize = 144;
 
@@ -46,9 +70,17 @@ impl Kind for SealedTag {
 
     const IMAGE: usize = 136;
 
+    ghost N = { 144 };
+
+    ghost W = { 136 };
+
+    ghost IMAGE = { 136 };
+
     ghost rules = { sealed };
 
     ghost bytes = { λ t. made t.image.bytes };
+
+    ghost figures = { sealed_figures };
 
     ghost lawful = { sealed_lawful };
 
@@ -56,21 +88,9 @@ impl Kind for SealedTag {
 
     ghost small = { λ k. bytes_made k.image.bytes k.image.small };
 
-    fn readable() -> usize {
-        Self::N
-    }
-
-    fn programmable() -> usize {
-        Self::W
-    }
-
-    fn image_length() -> usize {
-        Self::IMAGE
-    }
-
     fn from_image(image: &[u8]) -> Result<SealedTag, ImageFault> {
         Ok(SealedTag {
-            image: Image::from_slice(image)?,
+            image: Image::try_from(image)?,
         })
     }
 
@@ -80,24 +100,16 @@ impl Kind for SealedTag {
 
     fn load(&self, address: u16, sent: u8) -> u8 {
         let held = self.read(address);
-        if address < REGISTERS {
-            match self.control(address) {
-                WRITE_PROTECTED => held,
-                EPROM_MODE => sent & held,
-                _ => sent,
-            }
-        } else if address <= COPY_LOCK {
-            if locks(held) { held } else { sent }
-        } else if address == FACTORY {
-            held
-        } else if (address as usize) < Self::W {
-            if self.read(FACTORY) == EPROM_MODE {
-                held
-            } else {
-                sent
-            }
-        } else {
-            sent
+        match address {
+            0..REGISTERS => match self.control(address) {
+                Lock::WriteProtected => held,
+                Lock::EpromMode => sent & held,
+                Lock::Open => sent,
+            },
+            REGISTERS..=COPY_LOCK if locks(held) => held,
+            FACTORY => held,
+            ID_LOW..=ID_HIGH if Lock::from(self.read(FACTORY)) == Lock::EpromMode => held,
+            _ => sent,
         }
     }
 
@@ -108,7 +120,7 @@ impl Kind for SealedTag {
         if !locks(self.read(COPY_LOCK)) {
             return true;
         }
-        row != REGISTERS && !(row < REGISTERS && self.control(row) == WRITE_PROTECTED)
+        row != REGISTERS && !(row < REGISTERS && self.control(row) == Lock::WriteProtected)
     }
 
     fn program(&mut self, row: u16, new: &[u8; ROW], mask: u64) {

@@ -1,7 +1,6 @@
 -- Laws of the shift register.
-use Rattle.std.proofs.Common.{◌≡◌, ℕ, zero, suc, ◌+◌, ◌/◌, ◌^◌, ◌<◌, ◌≤◌, Bool, true, false, List, [], ◌∷◌, ◌++◌, length, get_or, drop, sym, refl, ap, ◌∙◌, arith}
+use Rattle.std.proofs.Common.{append-nil, ◌≡◌, ℕ, zero, suc, ◌/◌, ◌^◌, ◌<◌, Bool, true, false, List, [], ◌∷◌, ◌++◌, sym, refl, ap, ◌∙◌, arith}
 use lib.Bits.{bit_xor, xor_lt}
-use Rattle.std.proofs.lemmas.List.{at_drop_more, at_drop_all}
 use Rattle.bits.specs.Bits.{odd, bits_of, bits_all, differ}
 use Rattle.bits.proofs.Queues.{two_bytes, bytes_append, double}
 use Rattle.sums.specs.Sums.{poly8, poly16, shift, crc_bits, crc8, crc16, low_high}
@@ -11,17 +10,12 @@ pub crc_append : (p c : ℕ) (xs ys : List Bool) → crc_bits p c (xs ++ ys) ≡
 crc_append p c [] ys = refl
 crc_append p c (x ∷ xs) ys = crc_append p (shift p c x) xs ys
 
--- a loop over bytes: what is left gives the whole
-pub byte_more : (p c next : ℕ) (bytes : List ℕ) (i whole : ℕ) → i < length bytes
-    → crc_bits p c (bits_all (drop i bytes)) ≡ whole → next ≡ crc_bits p c (bits_of 8 (get_or bytes i 0))
-    → crc_bits p next (bits_all (drop (i + 1) bytes)) ≡ whole
-byte_more p c next bytes i whole h e n =
-    ap (λ s. crc_bits p s (bits_all (drop (i + 1) bytes))) n
-    ∙ sym (crc_append p c (bits_of 8 (get_or bytes i 0)) (bits_all (drop (i + 1) bytes)))
-    ∙ sym (at_drop_more (λ l. crc_bits p c (bits_all l)) bytes i 0 h) ∙ e
-
-pub byte_all : (p c : ℕ) (bytes : List ℕ) (i whole : ℕ) → length bytes ≤ i → crc_bits p c (bits_all (drop i bytes)) ≡ whole → c ≡ whole
-byte_all p c bytes i whole h e = sym (at_drop_all (λ l. crc_bits p c (bits_all l)) bytes i h) ∙ e
+-- one byte more after some
+pub byte_after : (p c : ℕ) (ys : List ℕ) (x : ℕ) → crc_bits p c (bits_all (ys ++ (x ∷ []))) ≡ crc_bits p (crc_bits p c (bits_all ys)) (bits_of 8 x)
+byte_after p c ys x =
+    ap (crc_bits p c) (bytes_append ys (x ∷ []))
+    ∙ crc_append p c (bits_all ys) (bits_all (x ∷ []))
+    ∙ ap (crc_bits p (crc_bits p c (bits_all ys))) (append-nil (bits_of 8 x))
 
 -- a register no wider than the polynomial stays so
 shift_small : (k p c : ℕ) (b : Bool) → p < 2 ^ k → c < 2 ^ k → shift p c b < 2 ^ k

@@ -1,5 +1,5 @@
 ghost use Rattle.std.specs.Prelude.{◌≡◌, List, [], ◌∷◌, ◌++◌};
-ghost use Rattle.bits.specs.Bits.{bits_of};
+ghost use Rattle.bits.specs.Bits.{bits_of, bits_all};
 ghost use Rattle.sums.specs.Sums.{poly8, poly16, shift, crc_bits, crc8, crc16, low_high, inverted};
 
 // X^8 + X^5 + X^4 + 1 without its highest power, the lowest power in the highest bit.
@@ -25,11 +25,20 @@ fn add_byte(poly: u16, sum: u16, byte: u8) -> u16
 {
     let mut state = sum;
     let mut rest = byte;
-    for i in 0..8u8 {
+    for _ in 0..8u8 {
         state = add_bit(poly, state, rest % 2 == 1);
         rest /= 2;
     }
     state
+}
+
+// More bytes, one after another.
+fn add_bytes(poly: u16, sum: u16, bytes: &[u8]) -> u16
+    ensures { result ≡ crc_bits poly sum (bits_all bytes.now) }
+{
+    bytes
+        .iter()
+        .fold(sum, |sum, byte| add_byte(poly, sum, *byte))
 }
 
 // The CRC-8 of some bytes; with it behind them the sum is 0.
@@ -37,22 +46,14 @@ pub fn crc8(bytes: &[u8]) -> u8
     ensures value { result ≡ crc8 bytes.now }
     ensures closes { crc8 (bytes.now ++ (result ∷ [])) ≡ 0 }
 {
-    let mut sum = 0;
-    for byte in bytes {
-        sum = add_byte(POLY8, sum, *byte);
-    }
-    sum as u8
+    add_bytes(POLY8, 0, bytes) as u8
 }
 
 // The CRC-16 of more bytes after those whose sum is given.
 pub fn crc16_after(begun: u16, bytes: &[u8]) -> u16
     ensures { result ≡ crc16 begun bytes.now }
 {
-    let mut sum = begun;
-    for byte in bytes {
-        sum = add_byte(POLY16, sum, *byte);
-    }
-    sum
+    add_bytes(POLY16, begun, bytes)
 }
 
 // The CRC-16 of some bytes; with it behind them, low byte first, the sum is 0.
@@ -74,6 +75,5 @@ pub fn crc16_more(sum: u16, byte: u8) -> u16
 pub fn inverted(sum: u16) -> [u8; 2]
     ensures { result ≡ inverted sum }
 {
-    let turned = 65535 - sum;
-    [(turned % 256) as u8, (turned / 256) as u8]
+    (!sum).to_le_bytes()
 }

@@ -1,11 +1,10 @@
 -- How many steps a survey takes.
-use Rattle.std.proofs.Common.{◌≡◌, ℕ, zero, suc, ◌+◌, ◌-◌, ◌*◌, ◌<◌, ◌≤◌, Bool, true, false, not, ◌&&◌, eqb, leb, ◌⊎◌, List, [], ◌∷◌, ◌++◌, sym, refl, ap, ◌∙◌, subst, inl, inr, arith}
-use Rattle.std.proofs.lemmas.Bool.{leb-true}
+use Rattle.std.proofs.Common.{◌≡◌, ℕ, zero, suc, ◌+◌, ◌-◌, ◌*◌, ◌<◌, ◌≤◌, Bool, true, false, not, ◌&&◌, eqb, ◌⊎◌, List, [], ◌∷◌, ◌++◌, sym, refl, ap, ◌∙◌, subst, inl, inr, arith}
 use Rattle.bits.specs.Bits.{bits_of, value}
 use Rattle.rig.specs.Rigs.{RigState, resets, slots}
 use Rattle.wire.specs.Jobs.{Job, ret, step, Got, done, line_busy, run, good, bad, Report, answered, refused_as}
 use Rattle.wire.proofs.Counts.{LeavesAt, GotAt, leaves_at, at-step, at-send}
-use Rattle.survey.specs.Surveys.{Next, over, way, onward, tail_of, chosen, triples, passes, most_places, room_of, listed}
+use Rattle.survey.specs.Surveys.{Next, over, way, onward, tail_of, chosen, triples, passes, room_of, listed}
 use Rattle.survey.specs.Laws.{SurveySteps}
 use Rattle.survey.proofs.Complete.{Out, going, seeks, after_reset}
 
@@ -58,11 +57,7 @@ at-passes (suc room) pass path got h =
         (λ bs nx. let e : 201 * suc pass ≡ 201 * pass + 1 + 8 + 3 * 64 = omega arith in subst (λ j. LeavesAt Takes j (going room (suc pass) got bs nx)) e (g bs nx)))
 
 room_most : (places : ℕ) → room_of places ≤ 64
-room_most places = go (leb places most_places) refl
-  where
-    go : (t : Bool) → leb places most_places ≡ t → (elim t as (λ _. ℕ) [ true ↦ places | false ↦ most_places ]) ≤ 64
-    go true e = leb-true places most_places e
-    go false e = omega arith
+room_most places = omega arith
 
 module _ (count steps : ℕ) (found : List ℕ) where
   abbrev Told : Report ℕ × List ℕ → Type 0

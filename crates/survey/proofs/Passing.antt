@@ -1,5 +1,5 @@
 -- The passes of the model, one by one.
-use Rattle.std.proofs.Common.{◌≡◌, ℕ, zero, suc, ◌+◌, ◌-◌, ◌*◌, ◌/◌, ◌%◌, ◌<◌, Bool, true, false, cond, not, ◌&&◌, eqb, List, [], ◌∷◌, ◌++◌, length, take, drop, set, Some, None, Ok, Err, Option, Result, sym, refl, ap, ◌∙◌, subst, ap₂, add-one, arith, drop-drop, take-suc-set, drop-set-lt, eq-eqb, ne_eqb}
+use Rattle.std.proofs.Common.{◌≡◌, ℕ, zero, suc, ◌+◌, ◌-◌, ◌*◌, ◌/◌, ◌%◌, ◌<◌, Bool, true, false, cond, not, ◌&&◌, eqb, List, [], ◌∷◌, ◌++◌, length, take, drop, set, Some, None, Ok, Err, Option, Result, sym, refl, ap, ◌∙◌, subst, ap₂, add-one, arith, drop-drop, take-suc-set, drop-set-lt}
 use mathlib.Core.Path.{fun_ext}
 use Rattle.bits.specs.Bits.{bit, bits_of, value, odd}
 use Rattle.line.specs.Lines.{busy}
@@ -11,26 +11,28 @@ use Rattle.wire.proofs.Bind.{bind}
 use Rattle.rig.specs.Meaning.{Counting, beat}
 use Rattle.rig.specs.declared.fault.RigFault.{RigFault}
 use Rattle.rig.specs.declared.fault.RigFault.TheVariants.{LineBusy}
-use Rattle.wire.specs.Wires.{does, sends, onward as onward_by, onwards}
-use Rattle.wire.specs.declared.fault.Why.TheVariants.{NoPresence, Garbled}
+use Rattle.wire.specs.Wires.{does, sends, keep, onward as onward_by, onwards}
+use Rattle.wire.specs.declared.fault.Why.TheVariants.{NoPresence}
 use Rattle.wire.specs.declared.fault.ExchangeFault.{ExchangeFault}
 use Rattle.wire.specs.declared.fault.ExchangeFault.TheVariants.{Rig, Failed}
 use Rattle.wire.specs.Exchanges.{number_of}
 use Rattle.wire.proofs.Follows.{past, run_step, run-send, run_part}
 use Rattle.survey.specs.declared.fault.SurveyFault.TheVariants.{Full, Exchange as InExchange}
-use Rattle.survey.specs.Walks.{next_word, walks}
-use Rattle.survey.specs.Passes.{pass_told}
+use Rattle.survey.specs.Walks.{next_way, walks}
+use Rattle.survey.specs.Passes.{pass_told, walk_told}
+use Rattle.survey.specs.declared.walk.Pass.{Pass}
+use Rattle.survey.proofs.Words.{passed}
 use Rattle.survey.specs.Listing.{Surveyed}
 use Rattle.survey.proofs.Walking.{Fits, fits_more}
 use Rattle.survey.proofs.Complete.{Out, going}
 
-module _ {B : Type 0} (lost : Job B) (K : Option (ℕ × ℕ) → Job B) (h0 : K None ≡ lost) where
-  forked : (s t : Bool) (q : Job (Option (ℕ × ℕ))) (q' : Job B) → bind q K ≡ q'
-      → bind (elim s as (λ _. Job (Option (ℕ × ℕ))) [ true ↦ ret None | false ↦ step (slots t) (λ _. q) ]) K ≡ (elim s as (λ _. Job B) [ true ↦ lost | false ↦ step (slots t) (λ _. q') ])
+module _ {B : Type 0} (lost : Job B) (K : Option Pass → Job B) (h0 : K None ≡ lost) where
+  forked : (s t : Bool) (q : Job (Option Pass)) (q' : Job B) → bind q K ≡ q'
+      → bind (elim s as (λ _. Job (Option Pass)) [ true ↦ ret None | false ↦ step (slots t) (λ _. q) ]) K ≡ (elim s as (λ _. Job B) [ true ↦ lost | false ↦ step (slots t) (λ _. q') ])
   forked true t q q' e = h0
   forked false t q q' e = ap (λ p. step (slots t) (λ _. p)) e
 
-  triples_bind : (n : ℕ) (path : List Bool) (f : List Bool → Next → Option (ℕ × ℕ)) (k : List Bool → Next → Job B)
+  triples_bind : (n : ℕ) (path : List Bool) (f : List Bool → Next → Option Pass) (k : List Bool → Next → Job B)
       → ((bs : List Bool) (nx : Next) → length bs ≡ n → Fits n nx → K (f bs nx) ≡ k bs nx)
       → bind (triples (ret None) n path (λ bs nx. ret (f bs nx))) K ≡ triples lost n path k
   triples_bind zero path f k h = h [] over refl tt
@@ -71,9 +73,13 @@ module _ {B : Type 0} (lost : Job B) where
       (λ k'. triples_path n bs k' ∙ ap (λ v. triples lost n (bits_of n v) k') (sym (half_bit b (value bs))))
 
 -- what a pass does with what it met
-abbrev pub onto : ℕ → ℕ → List ℕ → Option (ℕ × ℕ) → Job Out
+abbrev pub after : ℕ → ℕ → List ℕ → Option ℕ → Job Out
+after n e found None = ret (good e, found)
+after n e found (Some w) = passes n (suc e) (bits_of 64 w) found
+
+abbrev pub onto : ℕ → ℕ → List ℕ → Option Pass → Job Out
 onto n e found None = ret (bad 6 e, found)
-onto n e found (Some p) = elim (eqb p.1 0) as (λ _. Job Out) [ true ↦ ret (good e, found ++ (p.0 ∷ [])) | false ↦ passes n (suc e) (bits_of 64 p.1) (found ++ (p.0 ∷ [])) ]
+onto n e found (Some p) = after n e (found ++ (p.number ∷ [])) p.next
 
 abbrev framed : ℕ → List ℕ → Job Out → Job Out
 framed e found t = step resets (λ p. elim p as (λ _. Job Out) [ false ↦ ret (bad 5 e, found) | true ↦ send_bytes (0xF0 ∷ []) t ])
@@ -85,21 +91,35 @@ path_any (suc n) e q found = ap (framed e found) (triples_path (ret (bad 6 e, fo
 pass_tree : (n e w : ℕ) (found : List ℕ) → passes (suc n) e (bits_of 64 w) found ≡ framed e found (bind (walks w) (onto n e found))
 unfolding walks
 pass_tree n e w found =
-    ap (framed e found) (sym (triples_bind (ret (bad 6 e, found)) (onto n e found) refl 64 (bits_of 64 w) (λ bs nx. Some (value bs, next_word nx)) (going n e found) ends))
+    ap (framed e found) (sym (triples_bind (ret (bad 6 e, found)) (onto n e found) refl 64 (bits_of 64 w) (λ bs nx. Some (passed (value bs) (next_way nx))) (going n e found) ends))
   where
-    ends : (bs : List Bool) (nx : Next) → length bs ≡ 64 → Fits 64 nx → onto n e found (Some (value bs, next_word nx)) ≡ going n e found bs nx
+    ends : (bs : List Bool) (nx : Next) → length bs ≡ 64 → Fits 64 nx → onto n e found (Some (passed (value bs) (next_way nx))) ≡ going n e found bs nx
     ends bs over l f = refl
-    ends bs (way q) l f =
-        ap (λ t. elim t as (λ _. Job Out) [ true ↦ ret (good e, found ++ (value bs ∷ [])) | false ↦ passes n (suc e) (bits_of 64 (value q)) (found ++ (value bs ∷ [])) ]) (ne_eqb (value q) 0 (λ z. omega (arith, f.1, z)))
-        ∙ sym (path_any n (suc e) q (found ++ (value bs ∷ [])))
+    ends bs (way q) l f = sym (path_any n (suc e) q (found ++ (value bs ∷ [])))
+
+-- a pass once its reset is made, and once a chip was present
+abbrev sent : ℕ → ℕ → Counting → Counting × Result Pass ExchangeFault
+sent w e s = onward_by Rig (does (sends (0xF0 ∷ [])) s) (λ _ s. onward_by Rig (does (walks w) s) (λ o s. walk_told e o s))
+
+abbrev reset : ℕ → ℕ → Bool → Counting → Counting × Result Pass ExchangeFault
+reset w e present s = cond present (sent w e s) (s, Err (Failed NoPresence e s.steps))
+
+pass_as : (w e : ℕ) (d : Counting) → pass_told w e d ≡ onward_by Rig (beat resets d) (λ b s. reset w e b s)
+pass_as w e d = go (beat resets d).0 (beat resets d).1
+  where
+    go : (s : Counting) (r : Result Bool RigFault)
+        → onward_by keep (onwards Rig s r (λ b s. (s, cond b (Ok (tt {0})) (Err (Failed NoPresence e s.steps))))) (λ _ s. sent w e s) ≡ onwards Rig s r (λ b s. reset w e b s)
+    go s (Ok true) = refl
+    go s (Ok false) = refl
+    go s (Err x) = refl
 
 module _ (n e w : ℕ) (found : List ℕ) where
-  abbrev pub follow_pass : Counting → Result (ℕ × ℕ) ExchangeFault → Ran Out
+  abbrev pub follow_pass : Counting → Result Pass ExchangeFault → Ran Out
   follow_pass d (Ok p) = run d.steps (onto n e found (Some p)) d.rig
   follow_pass d (Err (Rig LineBusy)) = record { rig = d.rig; steps = d.steps; got = line_busy }
   follow_pass d (Err (Failed why x s)) = record { rig = d.rig; steps = s; got = done (bad (number_of why) x, found) }
 
-  on_past : {C : Type 0} (d : Counting) (r : Result C RigFault) (f : C → Counting → Ran Out) (rest : C → Counting → Counting × Result (ℕ × ℕ) ExchangeFault)
+  on_past : {C : Type 0} (d : Counting) (r : Result C RigFault) (f : C → Counting → Ran Out) (rest : C → Counting → Counting × Result Pass ExchangeFault)
       → ((c : C) (s : Counting) → f c s ≡ follow_pass (rest c s).0 (rest c s).1) → past d r f ≡ follow_pass (onwards Rig d r rest).0 (onwards Rig d r rest).1
   on_past d (Ok c) f rest h = h c d
   on_past d (Err LineBusy) f rest h = refl
@@ -108,58 +128,49 @@ module _ (n e w : ℕ) (found : List ℕ) where
   run_pass d =
       ap (λ p. run d.steps p d.rig) (pass_tree n e w found)
       ∙ run_step resets opened d
-      ∙ on_past (beat resets d).0 (beat resets d).1 (λ b s. run s.steps (opened b) s.rig) (λ b s. cond b (sent s) (s, Err (Failed NoPresence e s.steps))) each
+      ∙ on_past (beat resets d).0 (beat resets d).1 (λ b s. run s.steps (opened b) s.rig) (λ b s. reset w e b s) each
+      ∙ ap (λ t. follow_pass t.0 t.1) (sym (pass_as w e d))
     where
       opened : Bool → Job Out
       opened b = elim b [ false ↦ ret (bad 5 e, found) | true ↦ send_bytes (0xF0 ∷ []) (bind (walks w) (onto n e found)) ]
 
-      judge : Option (ℕ × ℕ) → Counting → Counting × Result (ℕ × ℕ) ExchangeFault
-      judge o s = elim o [ None ↦ (s, Err (Failed Garbled e s.steps)) | Some p ↦ (s, Ok p) ]
-
-      sent : Counting → Counting × Result (ℕ × ℕ) ExchangeFault
-      sent s = onward_by Rig (does (sends (0xF0 ∷ [])) s) (λ _ s. onward_by Rig (does (walks w) s) judge)
-
-      last : (o : Option (ℕ × ℕ)) (s : Counting) → run s.steps (onto n e found o) s.rig ≡ follow_pass (judge o s).0 (judge o s).1
+      last : (o : Option Pass) (s : Counting) → run s.steps (onto n e found o) s.rig ≡ follow_pass (walk_told e o s).0 (walk_told e o s).1
       last None s = refl
       last (Some p) s = refl
 
-      each : (b : Bool) (s : Counting) → run s.steps (opened b) s.rig ≡ follow_pass (cond b (sent s) (s, Err (Failed NoPresence e s.steps))).0 (cond b (sent s) (s, Err (Failed NoPresence e s.steps))).1
+      each : (b : Bool) (s : Counting) → run s.steps (opened b) s.rig ≡ follow_pass (reset w e b s).0 (reset w e b s).1
       each false s = refl
       each true s =
           run-send (0xF0 ∷ []) (bind (walks w) (onto n e found)) s
-          ∙ on_past (does (sends (0xF0 ∷ [])) s).0 (does (sends (0xF0 ∷ [])) s).1 (λ _ s. run s.steps (bind (walks w) (onto n e found)) s.rig) (λ _ s. onward_by Rig (does (walks w) s) judge)
-          (λ _ s. run_part (walks w) (onto n e found) s ∙ on_past (does (walks w) s).0 (does (walks w) s).1 (λ o s. run s.steps (onto n e found o) s.rig) judge last)
+          ∙ on_past (does (sends (0xF0 ∷ [])) s).0 (does (sends (0xF0 ∷ [])) s).1 (λ _ s. run s.steps (bind (walks w) (onto n e found)) s.rig) (λ _ s. onward_by Rig (does (walks w) s) (λ o s. walk_told e o s))
+          (λ _ s. run_part (walks w) (onto n e found) s ∙ on_past (does (walks w) s).0 (does (walks w) s).1 (λ o s. run s.steps (onto n e found o) s.rig) (λ o s. walk_told e o s) last)
 
 -- a fault of a pass carries the pass's number
-abbrev Numbered : ℕ → Result (ℕ × ℕ) ExchangeFault → Type 0
+abbrev Numbered : ℕ → Result Pass ExchangeFault → Type 0
 Numbered e (Ok p) = Unit {0}
 Numbered e (Err (Rig x)) = Unit {0}
 Numbered e (Err (Failed why x s)) = x ≡ e
 
 numbered : (w e : ℕ) (d : Counting) → Numbered e (pass_told w e d).1
-numbered w e d = first (beat resets d).0 (beat resets d).1
+numbered w e d = subst (λ t. Numbered e t.1) (sym (pass_as w e d)) (first (beat resets d).0 (beat resets d).1)
   where
-    judge : Option (ℕ × ℕ) → Counting → Counting × Result (ℕ × ℕ) ExchangeFault
-    judge o s = elim o [ None ↦ (s, Err (Failed Garbled e s.steps)) | Some p ↦ (s, Ok p) ]
-
-    last : (o : Option (ℕ × ℕ)) (s : Counting) → Numbered e (judge o s).1
+    last : (o : Option Pass) (s : Counting) → Numbered e (walk_told e o s).1
     last None s = refl
     last (Some p) s = tt
 
-    third : (s : Counting) (r : Result (Option (ℕ × ℕ)) RigFault) → Numbered e (onwards Rig s r judge).1
+    third : (s : Counting) (r : Result (Option Pass) RigFault) → Numbered e (onwards Rig s r (λ o s. walk_told e o s)).1
     third s (Ok o) = last o s
     third s (Err x) = tt
 
-    second : (s : Counting) (r : Result (Unit {0}) RigFault) → Numbered e (onwards Rig s r (λ _ s. onward_by Rig (does (walks w) s) judge)).1
+    second : (s : Counting) (r : Result (Unit {0}) RigFault) → Numbered e (onwards Rig s r (λ _ s. onward_by Rig (does (walks w) s) (λ o s. walk_told e o s))).1
     second s (Ok u) = third (does (walks w) s).0 (does (walks w) s).1
     second s (Err x) = tt
 
-    opened : (b : Bool) (s : Counting) → Numbered e (cond b (onward_by Rig (does (sends (0xF0 ∷ [])) s) (λ _ s. onward_by Rig (does (walks w) s) judge)) (s, Err (Failed NoPresence e s.steps))).1
+    opened : (b : Bool) (s : Counting) → Numbered e (reset w e b s).1
     opened true s = second (does (sends (0xF0 ∷ [])) s).0 (does (sends (0xF0 ∷ [])) s).1
     opened false s = refl
 
-    first : (s : Counting) (r : Result Bool RigFault)
-        → Numbered e (onwards Rig s r (λ b s. cond b (onward_by Rig (does (sends (0xF0 ∷ [])) s) (λ _ s. onward_by Rig (does (walks w) s) judge)) (s, Err (Failed NoPresence e s.steps)))).1
+    first : (s : Counting) (r : Result Bool RigFault) → Numbered e (onwards Rig s r (λ b s. reset w e b s)).1
     first s (Ok b) = opened b s
     first s (Err x) = tt
 
@@ -174,55 +185,48 @@ left_start room d l = ap (λ p. run d.steps p d.rig) (sym (path_any room 1 [] []
 abbrev pub Untouched : Counting → Counting → List ℕ → List ℕ → Type 0
 Untouched d0 d l0 l = busy d0.rig.line ≡ true → (d ≡ d0) × (l ≡ l0)
 
-abbrev sent : ℕ → ℕ → Bool → Counting → Counting × Result (ℕ × ℕ) ExchangeFault
-sent w e present d =
-    cond present
-    (onward_by Rig (does (sends (0xF0 ∷ [])) d) (λ _ d.
-    onward_by Rig (does (walks w) d) (λ o d. elim o [ None ↦ (d, Err (Failed Garbled e d.steps)) | Some p ↦ (d, Ok p) ])))
-    (d, Err (Failed NoPresence e d.steps))
-
 busy_pass : (w e : ℕ) (d : Counting) → busy d.rig.line ≡ true → (pass_told w e d).1 ≡ Err (Rig LineBusy)
 busy_pass w e d b =
-    ap (λ t. (onward_by Rig (elim t as (λ _. Counting × Result Bool RigFault) [ true ↦ (d, Err LineBusy) | false ↦ (record { rig = (pulse resets d.rig).0; steps = counted d.steps }, Ok (pulse resets d.rig).1) ]) (sent w e)).1) b
+    ap (λ t. t.1) (pass_as w e d)
+    ∙ ap (λ t. (onward_by Rig (elim t as (λ _. Counting × Result Bool RigFault) [ true ↦ (d, Err LineBusy) | false ↦ (record { rig = (pulse resets d.rig).0; steps = counted d.steps }, Ok (pulse resets d.rig).1) ]) (λ b s. reset w e b s)).1) b
 
-pub untouched_more : (w e : ℕ) (d0 d d' : Counting) (word next : ℕ) (l0 l l' : List ℕ) → Untouched d0 d l0 l → (d', Ok (word, next)) ≡ pass_told w e d → Untouched d0 d' l0 l'
-untouched_more w e d0 d d' word next l0 l l' u q b =
+pub untouched_more : (w e : ℕ) (d0 d d' : Counting) (p : Pass) (l0 l l' : List ℕ) → Untouched d0 d l0 l → (d', Ok p) ≡ pass_told w e d → Untouched d0 d' l0 l'
+untouched_more w e d0 d d' p l0 l l' u q b =
     let h : busy d.rig.line ≡ true = ap (λ d. busy d.rig.line) (u b).0 ∙ b in
-    let z : ◌≡◌ {A = Result (ℕ × ℕ) ExchangeFault} (Ok (word, next)) (Err (Rig LineBusy)) = ap (λ t. t.1) q ∙ busy_pass w e d h in
+    let z : ◌≡◌ {A = Result Pass ExchangeFault} (Ok p) (Err (Rig LineBusy)) = ap (λ t. t.1) q ∙ busy_pass w e d h in
     let y : ◌≡◌ {A = ℕ} 0 1 = cc in absurd (omega arith)
 
 module _ (room : ℕ) (d0 : Counting) (i n w : ℕ) (d : Counting) (l l0 : List ℕ) (inv : Left room d0 i d w l (suc n)) where
-  passed : {d' : Counting} {r : Result (ℕ × ℕ) ExchangeFault} → (d', r) ≡ pass_told w (i + 1) d → run d0.steps (passes room 1 [] []) d0.rig ≡ follow_pass n (i + 1) w (take i l) d' r
-  passed e = sym inv ∙ run_pass n (i + 1) w (take i l) d ∙ ap (λ s. follow_pass n (i + 1) w (take i l) s.0 s.1) (sym e)
+  passed_by : {d' : Counting} {r : Result Pass ExchangeFault} → (d', r) ≡ pass_told w (i + 1) d → run d0.steps (passes room 1 [] []) d0.rig ≡ follow_pass n (i + 1) w (take i l) d' r
+  passed_by e = sym inv ∙ run_pass n (i + 1) w (take i l) d ∙ ap (λ s. follow_pass n (i + 1) w (take i l) s.0 s.1) (sym e)
 
-  module _ {d' : Counting} (word next : ℕ) (e : (d', Ok (word, next)) ≡ pass_told w (i + 1) d) (lt : i < length l) where
-    seen : take (i + 1) (set l i word) ≡ take i l ++ (word ∷ [])
-    seen = ap (λ k. take k (set l i word)) (add-one i) ∙ take-suc-set l i word lt
+  module _ {d' : Counting} {p : Pass} (e : (d', Ok p) ≡ pass_told w (i + 1) d) (lt : i < length l) where
+    seen : take (i + 1) (set l i p.number) ≡ take i l ++ (p.number ∷ [])
+    seen = ap (λ k. take k (set l i p.number)) (add-one i) ∙ take-suc-set l i p.number lt
 
-    pub left_more : (next ≡ 0 → ⊥) → Left room d0 (i + 1) d' next (set l i word) n
-    left_more h =
-        sym (passed e
-        ∙ ap (λ t. run d'.steps (elim t as (λ _. Job Out) [ true ↦ ret (good (i + 1), take i l ++ (word ∷ [])) | false ↦ passes n (suc (i + 1)) (bits_of 64 next) (take i l ++ (word ∷ [])) ]) d'.rig) (ne_eqb next 0 h)
+    pub left_more : {next : ℕ} → p.next ≡ Some next → Left room d0 (i + 1) d' next (set l i p.number) n
+    left_more {next} h =
+        sym (passed_by e ∙ ap (λ o. run d'.steps (after n (i + 1) (take i l ++ (p.number ∷ [])) o) d'.rig) h
         ∙ ap₂ (λ k f. run d'.steps (passes n k (bits_of 64 next) f) d'.rig) (sym (add-one (i + 1))) (sym seen))
 
-    pub later_more : drop i l ≡ drop i l0 → drop (i + 1) (set l i word) ≡ drop (i + 1) l0
-    later_more h = drop-set-lt (i + 1) l i word (omega arith) ∙ sym (drop-drop 1 i l) ∙ ap (drop 1) h ∙ drop-drop 1 i l0
+    pub later_more : drop i l ≡ drop i l0 → drop (i + 1) (set l i p.number) ≡ drop (i + 1) l0
+    later_more h = drop-set-lt (i + 1) l i p.number (omega arith) ∙ sym (drop-drop 1 i l) ∙ ap (drop 1) h ∙ drop-drop 1 i l0
 
-    pub left_last : (s : ℕ) → s ≡ d'.steps → next ≡ 0 → drop i l ≡ drop i l0 → Surveyed room d0 d' l0 (set l i word) (Ok (i + 1, s))
+    pub left_last : (s : ℕ) → s ≡ d'.steps → p.next ≡ None → drop i l ≡ drop i l0 → Surveyed room d0 d' l0 (set l i p.number) (Ok (i + 1, s))
     left_last s z h k = record {
       so = ap₂ (λ s f. record { rig = d'.rig; steps = s; got = done (good (i + 1), f) }) z seen
-          ∙ sym (passed e ∙ ap (λ t. run d'.steps (elim t as (λ _. Job Out) [ true ↦ ret (good (i + 1), take i l ++ (word ∷ [])) | false ↦ passes n (suc (i + 1)) (bits_of 64 next) (take i l ++ (word ∷ [])) ]) d'.rig) (eq-eqb next 0 h));
+          ∙ sym (passed_by e ∙ ap (λ o. run d'.steps (after n (i + 1) (take i l ++ (p.number ∷ [])) o) d'.rig) h);
       later = later_more k;
       begun = tt;
     }
 
   pub left_fails : {d' : Counting} (f : ExchangeFault) → (d', Err f) ≡ pass_told w (i + 1) d → drop i l ≡ drop i l0 → Untouched d0 d l0 l → Surveyed room d0 d' l0 l (Err (InExchange f))
-  left_fails (Rig LineBusy) e k u = record { so = sym (passed e); later = λ b. (u b).1; begun = tt }
+  left_fails (Rig LineBusy) e k u = record { so = sym (passed_by e); later = λ b. (u b).1; begun = tt }
   left_fails {d'} (Failed why x s) e k u =
       let num : x ≡ i + 1 = subst (λ t. Numbered (i + 1) t.1) (sym e) (numbered w (i + 1) d) in
       let back : x - 1 ≡ i = omega arith in
       record {
-        so = ap (λ j. record { rig = d'.rig; steps = s; got = done (bad (number_of why) x, take j l) }) back ∙ sym (passed e);
+        so = ap (λ j. record { rig = d'.rig; steps = s; got = done (bad (number_of why) x, take j l) }) back ∙ sym (passed_by e);
         later = subst (λ j. drop j l ≡ drop j l0) (sym back) k;
         begun = tt;
       }

@@ -2,7 +2,8 @@
 use Rattle.std.proofs.Common.{◌≡◌, ℕ, zero, suc, ◌/◌, ◌^◌, ◌<◌, Bool, true, false, ◌||◌, List, [], ◌∷◌, ◌++◌, map, take, sym, refl, ap, ◌∙◌, subst, ap₂, inl, inr}
 use Rattle.std.proofs.lemmas.Bool.{true≢false, or_parts, eqb-true}
 use Rattle.bits.specs.Bits.{bits_of, bits_all, value, byte_of}
-use Rattle.bits.proofs.Queues.{value_bits, bytes_append}
+use Rattle.bits.proofs.Queues.{bytes_append}
+use Rattle.bits.specs.Widths.{value_bits}
 use Rattle.sums.specs.Sums.{crc8, crc_bits, poly8}
 use Rattle.number.specs.Numbers.{Checked, summed, word_bytes}
 use Rattle.memory.specs.Memories.{Memory}

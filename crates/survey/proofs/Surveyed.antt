@@ -1,8 +1,8 @@
 -- The laws of a survey.
-use Rattle.std.proofs.Common.{◌≡◌, ℕ, zero, suc, ◌+◌, ◌<◌, ◌≤◌, Bool, true, false, not, ◌&&◌, eqb, leb, ◌⊎◌, List, [], ◌∷◌, ◌++◌, map, length, take, sym, refl, ap, ◌∙◌, subst, inl, inr, arith}
+use Rattle.std.proofs.Common.{min, ◌-◌, ◌≡◌, ℕ, zero, suc, ◌+◌, ◌<◌, ◌≤◌, Bool, true, false, not, ◌&&◌, eqb, ◌⊎◌, List, [], ◌∷◌, ◌++◌, map, length, take, sym, refl, ap, ◌∙◌, subst, inl, inr, arith}
 use Rattle.std.proofs.lemmas.Bool.{cases_lt}
 use Rattle.bits.specs.Bits.{bits_of, value}
-use Rattle.bits.proofs.Queues.{value_bits}
+use Rattle.bits.specs.Widths.{value_bits}
 use Rattle.chip.specs.Steps.{ChipState, bytes_of, reset_chip}
 use Rattle.bits.proofs.Choice.{pick}
 use Rattle.chip.proofs.Sound.{SoundAll, met_sounds}
@@ -191,12 +191,7 @@ told_front xs (done s) n k e steps found h q = subst (λ z. Front z xs) (ap (λ 
 told_front xs line_busy n k e steps found h q = absurd h
 
 pub room_some : (places : ℕ) → (places ≡ 0 → ⊥) → (k : ℕ) × (room_of places ≡ suc k)
-room_some zero n = absurd (n refl)
-room_some (suc p) n = go (leb (suc p) most_places)
-  where
-    go : (t : Bool) → (k : ℕ) × ((elim t as (λ _. ℕ) [ true ↦ suc p | false ↦ most_places ]) ≡ suc k)
-    go true = (p, refl)
-    go false = (63, refl)
+room_some places n = (min places most_places - 1, omega (arith, n))
 
 -- no step of it is refused, and cut or not, it keeps a front
 kept : (k : ℕ) (l : List ChipState) (f : FuseState) → SoundAll l → busy l ≡ false → GotIt (Kept (sequence l)) (run 0 (passes (suc k) 1 [] []) (record { line = l; fuse = f })).got

@@ -1,7 +1,10 @@
 -- Words gathered bit by bit from above.
 use Rattle.std.proofs.Common.{◌≡◌, ℕ, zero, suc, ◌+◌, ◌-◌, ◌*◌, ◌/◌, Bool, true, false, List, [], ◌∷◌, length, Some, None, Option, sym, refl, ap, ◌∙◌, arith}
 use Rattle.bits.specs.Bits.{bit, bits_of, value}
+use Rattle.std.specs.Option.{option_map}
 use Rattle.wire.specs.Jobs.{Job, ret}
+use Rattle.survey.specs.declared.walk.Pass.{Pass}
+use Rattle.survey.specs.declared.walk.WalkState.{WalkState}
 use Rattle.survey.specs.Surveys.{triples, Next, over, way, onward}
 use Rattle.survey.specs.Walks.{shift64, next_by}
 
@@ -48,32 +51,32 @@ gathered k x (b ∷ bs) h =
     ∙ ap (λ n. n + dbl (suc k) (value bs)) (halve_dbl (length bs) (x / 2) (dbl k (bit b)))
     ∙ (let e = dbl_add k (bit b) (2 * value bs) in let f = dbl_twice k (value bs) in omega arith)
 
+zeros : (k : ℕ) → halve k 0 ≡ 0
+zeros zero = refl
+zeros (suc k) = zeros k
+
 pub gather_value : (bs : List Bool) → length bs ≡ 64 → gather 0 bs ≡ value bs
 gather_value bs h = gathered 0 0 bs (omega arith) ∙ ap (λ n. n + value bs) (zeros (length bs)) ∙ (let e : 0 + value bs ≡ value bs = omega arith in e)
-  where
-    zeros : (k : ℕ) → halve k 0 ≡ 0
-    zeros zero = refl
-    zeros (suc k) = zeros k
 
 pub gather_next : (k : ℕ) (ps : List Bool) → k + length ps ≡ 64 → halve k (gather 0 ps) ≡ value ps
 gather_next k ps h =
     ap (halve k) (gathered k 0 ps h ∙ ap (λ n. n + dbl k (value ps)) (zeros (length ps)))
     ∙ halve_dbl k 0 (value ps) ∙ ap (λ n. n + value ps) (zeros k) ∙ (let e : 0 + value ps ≡ value ps = omega arith in e)
-  where
-    zeros : (k : ℕ) → halve k 0 ≡ 0
-    zeros zero = refl
-    zeros (suc k) = zeros k
 
--- the word of the next way once n more triples are made
-abbrev pub turned : ℕ → ℕ → ℕ → Next → ℕ
-turned n word next over = halve n next
-turned n word next (way ps) = halve (n - length ps) (gather word ps)
+-- the next way once n more triples are made
+abbrev pub turned : ℕ → ℕ → Option ℕ → Next → Option ℕ
+turned n word next over = option_map (halve n) next
+turned n word next (way ps) = Some (halve (n - length ps) (gather word ps))
+
+abbrev pub passed : ℕ → Option ℕ → Pass
+passed word next = record { number = word; next = next }
 
 -- what is left of a pass
-abbrev pub walk_rest : ℕ → ℕ → ℕ → ℕ → Job (Option (ℕ × ℕ))
-walk_rest n w word next = triples (ret None) n (bits_of n w) (λ bs nx. ret (Some (gather word bs, turned n word next nx)))
+abbrev pub walk_rest : ℕ → WalkState → Job (Option Pass)
+walk_rest n s = triples (ret None) n (bits_of n s.way) (λ bs nx. ret (Some (passed (gather s.number bs) (turned n s.number s.next nx))))
 
-pub turned_more : (n word next : ℕ) (f t : Bool) (nx : Next) → turned (suc n) word next (onward f t nx) ≡ turned n (shift64 word t) (next_by f word next) nx
-turned_more n word next f t (way ps) = ap (λ k. halve k (gather (shift64 word t) ps)) (let e : suc n - suc (length ps) ≡ n - length ps = omega arith in e)
-turned_more n word next true t over = ap (λ k. halve k (shift64 word true)) (let e : suc n - 1 ≡ n = omega arith in e)
-turned_more n word next false t over = refl
+pub turned_more : (n word : ℕ) (next : Option ℕ) (f t : Bool) (nx : Next) → turned (suc n) word next (onward f t nx) ≡ turned n (shift64 word t) (next_by f word next) nx
+turned_more n word next f t (way ps) = ap (λ k. Some (halve k (gather (shift64 word t) ps))) (let e : suc n - suc (length ps) ≡ n - length ps = omega arith in e)
+turned_more n word next true t over = ap (λ k. Some (halve k (shift64 word true))) (let e : suc n - 1 ≡ n = omega arith in e)
+turned_more n word None false t over = refl
+turned_more n word (Some w) false t over = refl

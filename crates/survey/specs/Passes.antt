@@ -1,17 +1,19 @@
 -- One pass on a rig at work.
-use Rattle.std.specs.Prelude.{ℕ, cond, [], ◌∷◌, Some, None, Ok, Err, Result}
-use Rattle.rig.specs.Rigs.{resets}
-use Rattle.rig.specs.Meaning.{Counting, beat}
-use Rattle.wire.specs.Wires.{does, sends, onward}
-use Rattle.wire.specs.declared.fault.Why.TheVariants.{NoPresence, Garbled}
+use Rattle.std.specs.Prelude.{ℕ, [], ◌∷◌, Some, None, Ok, Err, Option, Result}
+use Rattle.rig.specs.Meaning.{Counting}
+use Rattle.wire.specs.Exchanges.{present}
+use Rattle.wire.specs.Wires.{does, sends, onward, keep}
+use Rattle.wire.specs.declared.fault.Why.TheVariants.{Garbled}
 use Rattle.wire.specs.declared.fault.ExchangeFault.{ExchangeFault}
 use Rattle.wire.specs.declared.fault.ExchangeFault.TheVariants.{Rig, Failed}
 use Rattle.survey.specs.Walks.{walks}
+use Rattle.survey.specs.declared.walk.Pass.{Pass}
 
-abbrev pub pass_told : ℕ → ℕ → Counting → Counting × Result (ℕ × ℕ) ExchangeFault
+-- a walk along a way where nobody answered is garbled
+abbrev pub walk_told : ℕ → Option Pass → Counting → Counting × Result Pass ExchangeFault
+walk_told e None d = (d, Err (Failed Garbled e d.steps))
+walk_told e (Some p) d = (d, Ok p)
+
+abbrev pub pass_told : ℕ → ℕ → Counting → Counting × Result Pass ExchangeFault
 pass_told w e d =
-    onward Rig (beat resets d) (λ present d.
-    cond present
-    (onward Rig (does (sends (0xF0 ∷ [])) d) (λ _ d.
-    onward Rig (does (walks w) d) (λ o d. elim o [ None ↦ (d, Err (Failed Garbled e d.steps)) | Some p ↦ (d, Ok p) ])))
-    (d, Err (Failed NoPresence e d.steps)))
+    onward keep (present e d) (λ _ d. onward Rig (does (sends (0xF0 ∷ [])) d) (λ _ d. onward Rig (does (walks w) d) (λ o d. walk_told e o d)))

@@ -1,5 +1,5 @@
 -- Listing the numbers on a line: passes along ways, 0 first where both bits occur.
-use Rattle.std.specs.Prelude.{ℕ, zero, suc, ◌-◌, Bool, true, false, not, ◌&&◌, List, [], ◌∷◌, ◌++◌, ◌==◌, nat_le}
+use Rattle.std.specs.Prelude.{ℕ, zero, suc, ◌-◌, Bool, true, false, not, ◌&&◌, List, [], ◌∷◌, ◌++◌, ◌==◌, min}
 use Rattle.bits.specs.Bits.{value}
 use Rattle.rig.specs.Rigs.{RigState, resets, slots}
 use Rattle.wire.specs.Jobs.{Job, ret, step, Got, done, line_busy, run, Said, good, bad, Report, refused_as, report_of, send_bytes}
@@ -59,7 +59,7 @@ passes (suc room) pass path found =
     ])
 
 abbrev pub room_of : ℕ → ℕ
-room_of places = elim (nat_le places most_places) [ true ↦ places | false ↦ most_places ]
+room_of places = min places most_places
 
 -- the answer with the numbers in the first places
 abbrev pub listed : Got (Said ℕ × List ℕ) → ℕ → Report ℕ × List ℕ

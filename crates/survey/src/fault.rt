@@ -1,27 +1,30 @@
 ghost use Rattle.std.specs.Prelude.{◌≡◌, ℕ, [], Err};
+ghost use Rattle.refusals.specs.Refusals.{number_of as numbered};
 ghost use Rattle.wire.specs.Jobs.{Report, refused_as};
 ghost use Rattle.survey.specs.Listing.{survey_answer};
 ghost use Rattle.survey.specs.declared.fault.SurveyFault.TheVariants.{Exchange};
 
+use refusals::refusal::Refusal;
 use wire::fault::{ExchangeFault, Refused};
 
 // Why a survey was refused or failed; the passes are counted as exchanges are.
-#[derive(Clone, Copy)]
+#[derive(Clone, Copy, Debug, PartialEq, Eq)]
 pub enum SurveyFault {
     NoPlace,
     Full { passes: u8, steps: u32 },
     Exchange(ExchangeFault),
 }
 
+// No trait shared with the other jobs' faults: a survey counts passes and tells what lies in the places.
 impl SurveyFault {
-    // The refusal's number, the pass and the steps made.
+    // The refusal, the pass and the steps made.
     pub fn refused(&self) -> Refused
-        ensures { ◌≡◌ {A = Report ℕ} (refused_as result.number result.exchange result.steps) (survey_answer (Err self.now) []).0 }
+        ensures { ◌≡◌ {A = Report ℕ} (refused_as (numbered result.refusal) result.exchange result.steps) (survey_answer (Err self.now) []).0 }
     {
         match self {
-            SurveyFault::NoPlace => Refused::at_once(9),
+            SurveyFault::NoPlace => Refused::at_once(Refusal::NoPlace),
             SurveyFault::Full { passes, steps } => Refused {
-                number: 9,
+                refusal: Refusal::NoPlace,
                 exchange: *passes,
                 steps: *steps,
             },

@@ -24,12 +24,13 @@ fn list_numbers<L: Line>(
     ensures { Surveyed room (counting L.chips rig.old) (counting L.chips rig.new) places.old places.new result }
 {
     let mut way = 0;
+    // By number and not by place, since the number of a pass is told too.
     for i in 0..room {
-        let (word, next) = make_pass(rig, way, i + 1)?;
-        places[i as usize] = word;
-        if next == 0 {
+        let pass = make_pass(rig, way, i + 1)?;
+        places[i as usize] = pass.number;
+        let Some(next) = pass.next else {
             return Ok((i + 1, rig.steps()));
-        }
+        };
         way = next;
     }
     Err(SurveyFault::Full {
@@ -38,7 +39,7 @@ fn list_numbers<L: Line>(
     })
 }
 
-// Lists the numbers of the powered chips, at most 64, in the lent places; answers their count and the steps made.
+// Lists the numbers of the powered chips, at most 64, in the lent places, since nothing is allocated; answers their count and the steps made.
 pub fn survey<L: Line>(rig: &mut Rig<L>, places: &mut [u64]) -> Result<(u8, u32), SurveyFault>
     ensures told { (rig_of L.chips rig.new, survey_answer result places.new) ≡ survey_call (length places.old) (rig_of L.chips rig.old) }
     ensures later { Later (busy (L.chips rig.old.line)) result places.old places.new }
@@ -60,9 +61,5 @@ pub fn survey<L: Line>(rig: &mut Rig<L>, places: &mut [u64]) -> Result<(u8, u32)
 fn room_of(count: usize) -> u8
     ensures { result ≡ room_of count }
 {
-    if count <= MOST_PLACES {
-        count as u8
-    } else {
-        MOST_PLACES as u8
-    }
+    count.min(MOST_PLACES) as u8
 }

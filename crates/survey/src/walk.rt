@@ -1,66 +1,98 @@
-ghost use Rattle.std.specs.Prelude.{◌≡◌, not, ◌&&◌};
+ghost use Rattle.std.specs.Prelude.{◌≡◌, None};
 ghost use Rattle.bits.specs.Bits.{odd};
 ghost use Rattle.rig.specs.Meaning.{counting};
 ghost use Rattle.wire.specs.Wires.{does};
-ghost use Rattle.survey.specs.Walks.{walks, shift64, taken, next_by};
+ghost use Rattle.survey.specs.Walks.{walks, met, choice, walked};
 
+use bits::words::ShiftIn;
 use line::bus::Line;
 use rig::fault::RigFault;
 use rig::master::Rig;
 
-// A bit shifted into a word from above.
-fn shifted(word: u64, bit: bool) -> u64
-    ensures { result ≡ shift64 word bit }
-{
-    if bit {
-        word / 2 + 0x8000_0000_0000_0000
-    } else {
-        word / 2
+// What a pass met: a number, and the way of the next pass, unless none is open.
+#[derive(Clone, Copy, Debug, PartialEq, Eq)]
+pub struct Pass {
+    pub number: u64,
+    pub next: Option<u64>,
+}
+
+// The bits that are there at a place, of the numbers that still listen.
+#[derive(Clone, Copy, Debug, PartialEq, Eq)]
+enum Met {
+    Only(bool),
+    Both,
+}
+
+impl Met {
+    // From a slot that read all bits joined, and one that read their opposites joined; nothing where nobody answered.
+    fn of(a: bool, b: bool) -> Option<Met>
+        ensures { result ≡ met a b }
+    {
+        match (a, b) {
+            (true, true) => None,
+            (true, false) => Some(Met::Only(true)),
+            (false, true) => Some(Met::Only(false)),
+            (false, false) => Some(Met::Both),
+        }
     }
 }
 
-// The bit to take in a triple that read a and b.
-fn choose(a: bool, b: bool, way: u64) -> bool
-    ensures { result ≡ taken a b (odd way) }
-{
-    if a {
-        true
-    } else if b {
-        false
-    } else {
-        way % 2 == 1
+// A pass under way: what is left of its way, the number so far, and the way of the next pass so far.
+#[derive(Clone, Copy, Debug, PartialEq, Eq)]
+struct WalkState {
+    pub way: u64,
+    pub number: u64,
+    pub next: Option<u64>,
+}
+
+impl WalkState {
+    // The bit to take: the one that is there, or where both are, the way's.
+    fn choose(&self, met: Met) -> bool
+        ensures { result ≡ choice met (odd self.now.way) }
+    {
+        match met {
+            Met::Only(bit) => bit,
+            Met::Both => self.way % 2 == 1,
+        }
+    }
+
+    // The next way turns at the last place where 0 was taken and 1 was there too.
+    fn take(self, met: Met, bit: bool) -> WalkState
+        ensures { result ≡ walked self met bit }
+    {
+        let next = match (met, bit) {
+            (Met::Both, false) => Some(self.number.shift_in(true)),
+            _ => self.next.map(|next| next / 2),
+        };
+        WalkState {
+            way: self.way / 2,
+            number: self.number.shift_in(bit),
+            next,
+        }
     }
 }
 
-// The way of the next pass so far: it turns at the last place where 0 was taken and 1 was there too.
-fn turn(a: bool, b: bool, t: bool, word: u64, next: u64) -> u64
-    ensures { result ≡ next_by (not a && not b && not t) word next }
-{
-    if !a && !b && !t {
-        shifted(word, true)
-    } else {
-        next / 2
-    }
-}
-
-// The 64 triples of a pass along a way: the number met and the way of the next pass, 0 where none is open; nothing where both bits were 1.
-pub fn walk<L: Line>(rig: &mut Rig<L>, start: u64) -> Result<Option<(u64, u64)>, RigFault>
+// The 64 triples of a pass along a way; nothing where both bits were 1.
+pub fn walk<L: Line>(rig: &mut Rig<L>, start: u64) -> Result<Option<Pass>, RigFault>
     ensures { (counting L.chips rig.new, result) ≡ does (walks start) (counting L.chips rig.old) }
 {
-    let mut way = start;
-    let mut word = 0;
-    let mut next = 0;
-    for i in 0..64u8 {
+    let mut walk = WalkState {
+        way: start,
+        number: 0,
+        next: None,
+    };
+    for _ in 0..u64::BITS {
         let a = rig.slot(true)?;
         let b = rig.slot(true)?;
-        if a & b {
+        let Some(met) = Met::of(a, b) else {
             return Ok(None);
-        }
-        let t = choose(a, b, way);
-        let _ = rig.slot(t)?;
-        next = turn(a, b, t, word, next);
-        word = shifted(word, t);
-        way /= 2;
+        };
+        let bit = walk.choose(met);
+        rig.slot(bit)?;
+        walk = walk.take(met, bit);
     }
-    Ok(Some((word, next)))
+    Ok(Some(Pass {
+        number: walk.number,
+        next: walk.next,
+    }))
 }

@@ -15,19 +15,19 @@ use Rattle.line.specs.declared.ends.OneTag.{OneTag}
 abbrev pub made_tag : Rules → ℕ → List ℕ → ChipState
 made_tag K number image = made_chip number (padded (record { rules = K; bytes = K.made image; work = on fresh idle }))
 
--- what the place holds afterwards, and the answer: 0, or the refusal's number
-abbrev pub placing : Rules → ℕ → List ℕ → Option ChipState → Option ChipState × ℕ
+-- what the place holds afterwards, and the refusal's number if it was refused
+abbrev pub placing : Rules → ℕ → List ℕ → Option ChipState → Option ChipState × Option ℕ
 placing K number image held =
-    elim (length image == K.image) [ true ↦ (Some (made_tag K number image), 0) | false ↦ (held, 2) ]
+    elim (length image == K.image) [ true ↦ (Some (made_tag K number image), None) | false ↦ (held, Some 2) ]
 
 module _ {P : Type 0} (memory : P → Memory) where
   abbrev pub place_of : Option (OneTag P) → Option ChipState
   place_of None = None
   place_of (Some t) = Some (model memory t.chip)
 
-abbrev pub answer_of : Result (Unit {0}) ImageFault → ℕ
-answer_of (Ok u) = 0
-answer_of (Err e) = refusal e
+abbrev pub answer_of : Result (Unit {0}) ImageFault → Option ℕ
+answer_of (Ok u) = None
+answer_of (Err e) = Some (refusal e)
 
 -- a tag made from a registration number, a lawful kind and an image of its length has met nothing yet
 abbrev pub MadeMet : Type 0

@@ -9,21 +9,9 @@ use line::ends::OneTag;
 use number::registration::Number;
 use scratchpad::pad::PadMemory;
 
-fn place_tag<K: Kind + Drop>(
-    place: &mut Option<OneTag<PadMemory<K>>>,
-    number: Number,
-    image: &[u8],
-) -> Result<(), ImageFault>
-    ensures told { (place_of (λ p. padded (model K.rules K.bytes p)) place.new, answer_of result) ≡ placing K.rules number.word image.now (place_of (λ p. padded (model K.rules K.bytes p)) place.old) }
-    ensures kept { OnErr result (place.new ≡ place.old) }
-{
-    let kind = K::from_image(image)?;
-    *place = Some(OneTag::new(number, PadMemory::new(kind)));
-    Ok(())
-}
-
 // A tag with its number and the bytes of an image, without power, in a lent place.
 // Refusal 2 where the image is not of the kind's length; the place is then unchanged.
+#[tactic(auto, using(crate::proofs::Fresh::made_met))]
 pub fn make_tag<K: Kind + Drop>(
     place: &mut Option<OneTag<PadMemory<K>>>,
     number: Number,
@@ -33,5 +21,7 @@ pub fn make_tag<K: Kind + Drop>(
     ensures kept { OnErr result (place.new ≡ place.old) }
     ensures met { MadeMet }
 {
-    place_tag(place, number, image)
+    let kind = K::from_image(image)?;
+    *place = Some(OneTag::new(number, PadMemory::new(kind)));
+    Ok(())
 }

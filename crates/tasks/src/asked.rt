@@ -1,21 +1,9 @@
 use history::calls::Call;
+use kind::rows::ROW;
+use number::registration::Number;
 use rig::master::Fuse;
+use samples::hex::Hex;
 use std::fmt;
-
-// Eight bytes in hexadecimal, in the sequence in which they travel.
-#[derive(Clone, Copy)]
-pub struct Hex(pub [u8; 8]);
-
-impl fmt::Display for Hex {
-    fn fmt<W: fmt::Write>(&self, f: &mut fmt::Formatter<W>) -> fmt::Result {
-        let mut gap = "";
-        for byte in self.0 {
-            write!(f, "{gap}{byte:02X}")?;
-            gap = " ";
-        }
-        Ok(())
-    }
-}
 
 // What was asked.
 #[derive(Clone, Copy)]
@@ -28,25 +16,35 @@ impl fmt::Display for Asked {
             Call::Slot(false) => f.write_str("Slot with 0"),
             Call::Slot(true) => f.write_str("Slot with 1"),
             Call::Dwell => f.write_str("Dwell"),
-            Call::Cut(mask) => {
-                let mask = Hex(mask.to_le_bytes());
-                write!(f, "Cut with mask {mask}")
-            }
+            Call::Cut(mask) => write!(f, "Cut with mask {}", Hex(&mask.to_le_bytes())),
             Call::PowerUp => f.write_str("Power-up"),
             Call::SetFuse(Fuse { count, mask }) => {
-                let mask = Hex(mask.to_le_bytes());
-                write!(f, "Fuse of {count} steps with mask {mask}")
+                write!(
+                    f,
+                    "Fuse of {count} steps with mask {}",
+                    Hex(&mask.to_le_bytes())
+                )
             }
             Call::Survey { places } => write!(f, "Search with a list of {places}"),
             Call::Read { number, row } => {
-                let of = Hex(number.bytes());
-                write!(f, "Reading of row {row:04X}h of {of}")
+                write!(f, "Reading of row {row:04X}h of {}", Hex(&number.bytes()))
             }
-            Call::Order { number, row, new } => {
-                let new = Hex(new);
-                let of = Hex(number.bytes());
-                write!(f, "Order of {new} to row {row:04X}h of {of}")
-            }
+            Call::Order { number, row, new } => ask_order(f, number, row, new),
         }
     }
+}
+
+fn ask_order<W: fmt::Write>(
+    f: &mut fmt::Formatter<W>,
+    number: Number,
+    row: u16,
+    new: [u8; ROW],
+) -> fmt::Result {
+    let of = number.bytes();
+    write!(
+        f,
+        "Order of {} to row {row:04X}h of {}",
+        Hex(&new),
+        Hex(&of)
+    )
 }

@@ -1,85 +1,51 @@
-use crate::asked::Hex;
-use crate::runs::{
-    EDGES, GEARBOX, LOCKED, PAIR, PLUG, SEALED, Step, TASK, WRONG_GEARBOX, WRONG_SEALED,
-};
+use crate::runs::{Alone, Crowd, Pair};
 use crate::said::Made;
-use crate::telling::{number_of, tell, tell_joint};
-use anyhow::anyhow;
+use crate::session::Session;
 use kind::tags::Kind;
-use line::ends::OneTag;
+use line::ends::Joint;
 use number::registration::Number;
 use plug::practice::PracticePlug;
-use scratchpad::pad::PadMemory;
+use samples::hex::Hex;
+use samples::numbers::{GEARBOX, PLUG, SEALED, WRONG_GEARBOX, WRONG_SEALED, number_of};
+use samples::plugs::many_plugs;
+use samples::tags::{Tag, own_addresses, tag_of};
 use sealed::tag::SealedTag;
 use std::io;
 use tag::making::make_tag;
-
-// A tag of any kind from its number and image.
-pub fn tag_of<K: Kind + Drop>(word: u64, image: &[u8]) -> anyhow::Result<OneTag<PadMemory<K>>> {
-    let number = number_of(word)?;
-    let mut place = None;
-    let _ = make_tag(&mut place, number, image);
-    match place {
-        Some(tag) => Ok(tag),
-        None => Err(anyhow!("no tag")),
-    }
-}
-
-// Plays a run on one tag.
-fn tell_tag<K: Kind + Drop>(
-    rt: &HostRuntime,
-    word: u64,
-    image: &[u8],
-    run: &[Step],
-) -> anyhow::Result<()> {
-    let tag = tag_of::<K>(word, image)?;
-    tell(rt, tag, run)
-}
-
-// The same on two joined tags, with the numbers of the pair.
-fn tell_pair<J: Kind + Drop, K: Kind + Drop>(
-    rt: &HostRuntime,
-    left: &[u8],
-    right: &[u8],
-) -> anyhow::Result<()> {
-    let left = tag_of::<J>(PLUG, left)?;
-    let right = tag_of::<K>(SEALED, right)?;
-    tell_joint(rt, left, right, &PAIR)
-}
 
 pub fn gearbox(rt: &HostRuntime) -> anyhow::Result<()> {
     tell_numbers(rt)?;
     let number = number_of(GEARBOX)?;
     tell_image::<SealedTag>(rt, number, &[0xFF; 135])?;
     tell_image::<SealedTag>(rt, number, &[0xFF; 136])?;
-    tell_tag::<SealedTag>(rt, GEARBOX, &[0xFF; 136], &TASK)
+    let tag = tag_of::<SealedTag>(GEARBOX, &[0xFF; 136])?;
+    let mut alone = Alone {
+        session: Session::new(rt, tag),
+        number,
+    };
+    alone.task()?;
+    Ok(())
 }
 
 fn tell_numbers(rt: &HostRuntime) -> io::Result<()> {
     rt.println("Numbers, and the image of a sealed tag.")?;
     for word in [WRONG_GEARBOX, GEARBOX, WRONG_SEALED, SEALED] {
-        tell_number(rt, word)?;
+        let made = Number::try_from(word)
+            .map(|_| ())
+            .map_err(|fault| fault.refusal());
+        println!(rt; "Number {}: {}.", Hex(&word.to_le_bytes()), Made(made))?;
     }
     Ok(())
 }
 
-fn tell_number(rt: &HostRuntime, word: u64) -> io::Result<()> {
-    let number = Hex(word.to_le_bytes());
-    let made = match Number::new(word) {
-        Ok(_) => Made(None),
-        Err(fault) => Made(Some(fault.refusal())),
-    };
-    println!(rt; "Number {number}: {made}.")
-}
-
 fn tell_image<K: Kind + Drop>(rt: &HostRuntime, number: Number, image: &[u8]) -> io::Result<()> {
     let length = image.len();
-    let mut place: Option<OneTag<PadMemory<K>>> = None;
-    let made = match make_tag(&mut place, number, image) {
-        Ok(()) => Made(None),
-        Err(fault) => Made(Some(fault.refusal())),
-    };
-    println!(rt; "Sealed tag from an image of {length} bytes: {made}.")
+    let mut place: Option<Tag<K>> = None;
+    let made = make_tag(&mut place, number, image).map_err(|fault| fault.refusal());
+    println!(rt;
+        "Sealed tag from an image of {length} bytes: {}.",
+        Made(made)
+    )
 }
 
 // Page 0 write-protected, page 1 in EPROM mode, pages 2 and 3 free, and a byte at 84h.
@@ -94,15 +60,40 @@ fn edge_image(lock: u8) -> [u8; 136] {
 }
 
 pub fn edges(rt: &HostRuntime) -> anyhow::Result<()> {
-    tell_tag::<SealedTag>(rt, SEALED, &edge_image(0x00), &EDGES)?;
-    tell_tag::<SealedTag>(rt, SEALED, &edge_image(0x55), &LOCKED)
+    let number = number_of(SEALED)?;
+    let free = tag_of::<SealedTag>(SEALED, &edge_image(0x00))?;
+    let mut alone = Alone {
+        session: Session::new(rt, free),
+        number,
+    };
+    alone.edges()?;
+    let locked = tag_of::<SealedTag>(SEALED, &edge_image(0x55))?;
+    let mut alone = Alone {
+        session: Session::new(rt, locked),
+        number,
+    };
+    alone.locked()?;
+    Ok(())
 }
 
 // A practice plug of A5h, and a sealed tag in which each byte is its own address.
 pub fn pair(rt: &HostRuntime) -> anyhow::Result<()> {
-    let mut image = [0; 136];
-    for (i, byte) in image.iter_mut().enumerate() {
-        *byte = (i % 256) as u8;
-    }
-    tell_pair::<PracticePlug, SealedTag>(rt, &[0xA5; 64], &image)
+    let left = tag_of::<PracticePlug>(PLUG, &[0xA5; 64])?;
+    let right = tag_of::<SealedTag>(SEALED, &own_addresses())?;
+    let mut pair = Pair {
+        session: Session::new(rt, Joint::new(left, right)),
+        plug: number_of(PLUG)?,
+        sealed: number_of(SEALED)?,
+        absent: number_of(GEARBOX)?,
+    };
+    pair.run()?;
+    Ok(())
+}
+
+pub fn many(rt: &HostRuntime) -> anyhow::Result<()> {
+    let mut crowd = Crowd {
+        session: Session::new(rt, many_plugs()?),
+    };
+    crowd.run()?;
+    Ok(())
 }

@@ -1,32 +1,16 @@
-// A sentence to say, forty slots of which nothing is said, or a call; a number is named by its word.
-#[derive(Clone, Copy)]
-pub enum Step {
-    Say(&'static str),
-    Forty(u64),
-    Reset,
-    Slot(bool),
-    Dwell,
-    Cut(u64),
-    PowerUp,
-    Fuse(u32, u64),
-    List(usize),
-    Read(u64, u16),
-    Order(u64, u16, [u8; 8]),
-}
+use crate::session::Session;
+use history::calls::Call;
+use line::ends::Joint;
+use number::registration::Number;
+use rig::master::Fuse;
+use samples::many::Many;
+use samples::numbers::CLUTCH;
+use samples::plugs::{MANY, Plug};
+use samples::tags::Tag;
+use sealed::tag::SealedTag;
+use std::io;
 
-// The number of the gearbox tag, and the same with a wrong check byte.
-pub const GEARBOX: u64 = 0x6101_0000_0036_472D;
-
-pub const WRONG_GEARBOX: u64 = 0x6201_0000_0036_472D;
-
-// Six 00h, 01h, and the right check byte 5Eh; and the same with 5Fh.
-pub const SEALED: u64 = 0x5E01_0000_0000_0000;
-
-pub const WRONG_SEALED: u64 = 0x5F01_0000_0000_0000;
-
-pub const PLUG: u64 = 0;
-
-const CLUTCH: [u8; 8] = [0x12, 0x5A, 0x03, 0xE8, 0x0B, 0xB8, 0x00, 0x64];
+type Sealed = Tag<SealedTag>;
 
 const OLD: [u8; 8] = [0xF0; 8];
 
@@ -38,122 +22,207 @@ const SUM_ZERO: [u8; 8] = [0x00, 0x00, 0x00, 0x00, 0x00, 0x00, 0x41, 0xF0];
 // CCh, 55h, 08h, 00h, 87h.
 const COPY_AGAIN: u64 = 0x87_0008_55CC;
 
-// A sealed tag whose bytes are all FFh.
-pub const TASK: [Step; 7] = [
-    Step::Say("The gearbox tag gets power and is found; its clutch values are ordered and read."),
-    Step::Reset,
-    Step::PowerUp,
-    Step::Reset,
-    Step::List(8),
-    Step::Order(GEARBOX, 0x40, CLUTCH),
-    Step::Read(GEARBOX, 0x40),
-];
+fn list(places: usize) -> Call {
+    Call::Survey { places }
+}
 
-// A sealed tag of F0h, with page 0 write-protected, page 1 in EPROM mode, pages 2 and 3 free.
-pub const EDGES: [Step; 22] = [
-    Step::Say("An order loses power at its dwell, with two masks, and at its closing reset."),
-    Step::PowerUp,
-    Step::Fuse(467, 0),
-    Step::Order(SEALED, 0x40, NEW),
-    Step::PowerUp,
-    Step::Read(SEALED, 0x40),
-    Step::Fuse(467, 0xFFFF_FFFF),
-    Step::Order(SEALED, 0x40, NEW),
-    Step::PowerUp,
-    Step::Read(SEALED, 0x40),
-    Step::Fuse(637, 0),
-    Step::Order(SEALED, 0x40, NEW),
-    Step::PowerUp,
-    Step::Read(SEALED, 0x40),
-    Step::Say("Page 0 is write-protected, page 1 in EPROM mode, and row 0088h not programmable."),
-    Step::Order(SEALED, 0x20, [0x0F; 8]),
-    Step::Order(SEALED, 0x20, [0x70; 8]),
-    Step::Order(SEALED, 0x00, OLD),
-    Step::Order(SEALED, 0x00, NEW),
-    Step::Order(SEALED, 0x88, [0xFF; 8]),
-    Step::Order(SEALED, 0x88, [0x00; 8]),
-    Step::Order(SEALED, 0x03, NEW),
-];
+fn read(number: Number, row: u16) -> Call {
+    Call::Read { number, row }
+}
 
-// The same, with 55h at 84h.
-pub const LOCKED: [Step; 3] = [
-    Step::Say("The same protected row in a tag whose byte 84h is 55h."),
-    Step::PowerUp,
-    Step::Order(SEALED, 0x00, OLD),
-];
+fn order(number: Number, row: u16, new: [u8; 8]) -> Call {
+    Call::Order { number, row, new }
+}
 
-// A practice plug whose bytes are all A5h, joined with a sealed tag in which each byte is its own address.
-pub const PAIR: [Step; 63] = [
-    Step::Say("Two tags on one line: a practice plug of A5h, and a sealed tag of addresses."),
-    Step::PowerUp,
-    Step::List(8),
-    Step::Read(SEALED, 0x40),
-    Step::Read(SEALED, 0x90),
-    Step::Read(PLUG, 0x38),
-    Step::Read(PLUG, 0x40),
-    Step::Say("Readings of a wrong row, of an absent tag, without power, and cut short."),
-    Step::Read(SEALED, 0x03),
-    Step::Read(GEARBOX, 0x00),
-    Step::Cut(0),
-    Step::Read(SEALED, 0x40),
-    Step::PowerUp,
-    Step::Fuse(40, 0),
-    Step::Read(SEALED, 0x40),
-    Step::PowerUp,
-    Step::Fuse(100, 0),
-    Step::Read(SEALED, 0x40),
-    Step::PowerUp,
-    Step::Fuse(200, 0),
-    Step::Read(SEALED, 0x40),
-    Step::PowerUp,
-    Step::Fuse(266, 0),
-    Step::Read(SEALED, 0x40),
-    Step::Say("Searches without power, with too few places, and cut short."),
-    Step::List(8),
-    Step::PowerUp,
-    Step::List(0),
-    Step::List(1),
-    Step::Fuse(201, 0),
-    Step::List(8),
-    Step::PowerUp,
-    Step::Fuse(300, 0),
-    Step::List(8),
-    Step::Say("Orders without power, to an absent tag, and cut short."),
-    Step::Order(PLUG, 0x00, NEW),
-    Step::PowerUp,
-    Step::Order(GEARBOX, 0x00, NEW),
-    Step::Order(GEARBOX, 0x00, SUM_ZERO),
-    Step::Fuse(100, 0),
-    Step::Order(PLUG, 0x00, NEW),
-    Step::PowerUp,
-    Step::Fuse(300, 0),
-    Step::Order(PLUG, 0x00, NEW),
-    Step::Say(
-        "The plug takes an order, then slots with CCh, 55h, 08h, 00h, 87h; it programs again.",
-    ),
-    Step::PowerUp,
-    Step::Order(PLUG, 0x08, NEW),
-    Step::Reset,
-    Step::Forty(COPY_AGAIN),
-    Step::Reset,
-    Step::Slot(true),
-    Step::Read(SEALED, 0x40),
-    Step::List(8),
-    Step::Order(PLUG, 0x08, NEW),
-    Step::Dwell,
-    Step::Slot(true),
-    Step::Slot(true),
-    Step::Read(PLUG, 0x08),
-    Step::List(2),
-    Step::Say("The plug's row 0000h kept its bytes; row 0040h lies above its memory."),
-    Step::Read(PLUG, 0x00),
-    Step::Order(PLUG, 0x40, [0xFF; 8]),
-    Step::Order(PLUG, 0x40, NEW),
-];
+fn fuse(count: u32, mask: u64) -> Call {
+    Call::SetFuse(Fuse { count, mask })
+}
+
+// A sealed tag alone on its line, and its number.
+#[derive(Drop)]
+pub struct Alone<'a> {
+    pub session: Session<'a, Sealed>,
+    pub number: Number,
+}
+
+impl Alone<'_> {
+    // The tag's bytes are all FFh.
+    pub fn task(&mut self) -> io::Result<()> {
+        self.session.rt.println(
+            "The gearbox tag gets power and is found; its clutch values are ordered and read.",
+        )?;
+        self.session.ask(&[
+            Call::Reset,
+            Call::PowerUp,
+            Call::Reset,
+            list(8),
+            order(self.number, 0x40, CLUTCH),
+            read(self.number, 0x40),
+        ])
+    }
+
+    // The tag's bytes are F0h, with page 0 write-protected, page 1 in EPROM mode, pages 2 and 3 free.
+    pub fn edges(&mut self) -> io::Result<()> {
+        self.session.rt.println(
+            "An order loses power at its dwell, with two masks, and at its closing reset.",
+        )?;
+        self.session.ask(&[
+            Call::PowerUp,
+            fuse(467, 0),
+            order(self.number, 0x40, NEW),
+            Call::PowerUp,
+            read(self.number, 0x40),
+            fuse(467, 0xFFFF_FFFF),
+            order(self.number, 0x40, NEW),
+            Call::PowerUp,
+            read(self.number, 0x40),
+            fuse(637, 0),
+            order(self.number, 0x40, NEW),
+            Call::PowerUp,
+            read(self.number, 0x40),
+        ])?;
+        self.session.rt.println(
+            "Page 0 is write-protected, page 1 in EPROM mode, and row 0088h not programmable.",
+        )?;
+        self.session.ask(&[
+            order(self.number, 0x20, [0x0F; 8]),
+            order(self.number, 0x20, [0x70; 8]),
+            order(self.number, 0x00, OLD),
+            order(self.number, 0x00, NEW),
+            order(self.number, 0x88, [0xFF; 8]),
+            order(self.number, 0x88, [0x00; 8]),
+            order(self.number, 0x03, NEW),
+        ])
+    }
+
+    // The same, with 55h at 84h.
+    pub fn locked(&mut self) -> io::Result<()> {
+        self.session
+            .rt
+            .println("The same protected row in a tag whose byte 84h is 55h.")?;
+        self.session
+            .ask(&[Call::PowerUp, order(self.number, 0x00, OLD)])
+    }
+}
 
 // Practice plugs of one family, one more than a survey lists.
-pub const MANY: [Step; 3] = [
-    Step::Say("Practice plugs on one line, family 2Dh, serial numbers 0 to 64."),
-    Step::PowerUp,
-    Step::List(100),
-];
+#[derive(Drop)]
+pub struct Crowd<'a> {
+    pub session: Session<'a, Many<Plug, MANY>>,
+}
+
+impl Crowd<'_> {
+    pub fn run(&mut self) -> io::Result<()> {
+        self.session.rt.println("Practice plugs on one line, family 2Dh, serial numbers 0 to 64.")?;
+        self.session.ask(&[Call::PowerUp, list(100)])
+    }
+}
+
+// A practice plug whose bytes are all A5h, joined with a sealed tag in which each byte is its own address;
+// their numbers, and one that neither has.
+#[derive(Drop)]
+pub struct Pair<'a> {
+    pub session: Session<'a, Joint<Plug, Sealed>>,
+    pub plug: Number,
+    pub sealed: Number,
+    pub absent: Number,
+}
+
+impl Pair<'_> {
+    pub fn run(&mut self) -> io::Result<()> {
+        self.readings()?;
+        self.searches()?;
+        self.orders()?;
+        self.copy_again()
+    }
+
+    fn readings(&mut self) -> io::Result<()> {
+        self.session.rt.println(
+            "Two tags on one line: a practice plug of A5h, and a sealed tag of addresses.",
+        )?;
+        self.session.ask(&[
+            Call::PowerUp,
+            list(8),
+            read(self.sealed, 0x40),
+            read(self.sealed, 0x90),
+            read(self.plug, 0x38),
+            read(self.plug, 0x40),
+        ])?;
+        self.session.rt.println(
+            "Readings of a wrong row, of an absent tag, without power, and cut short.",
+        )?;
+        self.session.ask(&[
+            read(self.sealed, 0x03),
+            read(self.absent, 0x00),
+            Call::Cut(0),
+            read(self.sealed, 0x40),
+        ])?;
+        for count in [40, 100, 200, 266] {
+            self.session
+                .ask(&[Call::PowerUp, fuse(count, 0), read(self.sealed, 0x40)])?;
+        }
+        Ok(())
+    }
+
+    fn searches(&mut self) -> io::Result<()> {
+        self.session.rt.println("Searches without power, with too few places, and cut short.")?;
+        self.session.ask(&[
+            list(8),
+            Call::PowerUp,
+            list(0),
+            list(1),
+            fuse(201, 0),
+            list(8),
+            Call::PowerUp,
+            fuse(300, 0),
+            list(8),
+        ])
+    }
+
+    fn orders(&mut self) -> io::Result<()> {
+        self.session
+            .rt
+            .println("Orders without power, to an absent tag, and cut short.")?;
+        self.session.ask(&[
+            order(self.plug, 0x00, NEW),
+            Call::PowerUp,
+            order(self.absent, 0x00, NEW),
+            order(self.absent, 0x00, SUM_ZERO),
+            fuse(100, 0),
+            order(self.plug, 0x00, NEW),
+            Call::PowerUp,
+            fuse(300, 0),
+            order(self.plug, 0x00, NEW),
+        ])
+    }
+
+    // The scratchpad still holds the plug's last row when it is copied once more.
+    fn copy_again(&mut self) -> io::Result<()> {
+        self.session.rt.println(
+            "The plug takes an order, then slots with CCh, 55h, 08h, 00h, 87h; it programs again.",
+        )?;
+        self.session
+            .ask(&[Call::PowerUp, order(self.plug, 0x08, NEW), Call::Reset])?;
+        self.session.send_forty(COPY_AGAIN);
+        self.session.ask(&[
+            Call::Reset,
+            Call::Slot(true),
+            read(self.sealed, 0x40),
+            list(8),
+            order(self.plug, 0x08, NEW),
+            Call::Dwell,
+            Call::Slot(true),
+            Call::Slot(true),
+            read(self.plug, 0x08),
+            list(2),
+        ])?;
+        self.session.rt.println(
+            "The plug's row 0000h kept its bytes; row 0040h lies above its memory.",
+        )?;
+        self.session.ask(&[
+            read(self.plug, 0x00),
+            order(self.plug, 0x40, [0xFF; 8]),
+            order(self.plug, 0x40, NEW),
+        ])
+    }
+}

@@ -1,22 +1,23 @@
-use crate::asked::Hex;
 use history::calls::Answer;
 use kind::rows::ROW;
 use order::fault::OrderFault;
 use reading::fault::ReadFault;
+use refusals::refusal::Refusal;
+use samples::hex::Hex;
+use samples::refused::RefusedAt;
 use std::fmt;
 use survey::fault::SurveyFault;
 use survey::listing::MOST_PLACES;
-use wire::fault::Refused;
 
 // Whether something was made, or the number of the refusal.
 #[derive(Clone, Copy)]
-pub struct Made(pub Option<u8>);
+pub struct Made(pub Result<(), Refusal>);
 
 impl fmt::Display for Made {
     fn fmt<W: fmt::Write>(&self, f: &mut fmt::Formatter<W>) -> fmt::Result {
         match self.0 {
-            None => f.write_str("made"),
-            Some(refusal) => write!(f, "refused with {refusal}"),
+            Ok(()) => f.write_str("made"),
+            Err(refusal) => write!(f, "refused with {refusal}"),
         }
     }
 }
@@ -28,37 +29,18 @@ pub struct Said(pub Answer);
 impl fmt::Display for Said {
     fn fmt<W: fmt::Write>(&self, f: &mut fmt::Formatter<W>) -> fmt::Result {
         match self.0 {
-            Answer::Presence(false) => f.write_str("no presence"),
-            Answer::Presence(true) => f.write_str("presence"),
-            Answer::Bit(false) => f.write_str("0"),
-            Answer::Bit(true) => f.write_str("1"),
-            Answer::Done => f.write_str("done"),
-            Answer::Refused(fault) => {
-                let refusal = fault.refusal();
-                write!(f, "refused with {refusal}")
+            Answer::Presence(Ok(false)) => f.write_str("no presence"),
+            Answer::Presence(Ok(true)) => f.write_str("presence"),
+            Answer::Bit(Ok(false)) => f.write_str("0"),
+            Answer::Bit(Ok(true)) => f.write_str("1"),
+            Answer::Presence(Err(fault)) | Answer::Bit(Err(fault)) => {
+                write!(f, "refused with {}", fault.refusal())
             }
+            Answer::Done => f.write_str("done"),
             Answer::Listed { outcome, places } => say_list(f, outcome, places),
             Answer::Row(outcome) => say_row(f, outcome),
             Answer::Judged(outcome) => say_verdict(f, outcome),
         }
-    }
-}
-
-// The steps of a job, or its refusal.
-fn say_outcome<W: fmt::Write>(
-    f: &mut fmt::Formatter<W>,
-    unit: &str,
-    told: Result<u32, Refused>,
-) -> fmt::Result {
-    match told {
-        Ok(steps) => write!(f, "steps {steps}"),
-        Err(
-            Refused {
-                number,
-                exchange,
-                steps,
-            },
-        ) => write!(f, "refused with {number}, {unit} {exchange}, steps {steps}"),
     }
 }
 
@@ -69,11 +51,13 @@ fn say_row<W: fmt::Write>(
     match outcome {
         Ok(told) => {
             let row = told.0;
-            let row = Hex(row);
-            let steps = told.1;
-            write!(f, "{row}, steps {steps}")
+            write!(f, "{}, steps {}", Hex(&row), told.1)
         }
-        Err(fault) => say_outcome(f, "exchange", Err(fault.refused())),
+        Err(fault) => {
+            let unit = "exchange";
+            let refused = fault.refused();
+            write!(f, "{}", RefusedAt { unit, refused })
+        }
     }
 }
 
@@ -82,15 +66,23 @@ fn say_list<W: fmt::Write>(
     outcome: Result<(u8, u32), SurveyFault>,
     places: [u64; MOST_PLACES],
 ) -> fmt::Result {
-    let (told, found) = match outcome {
-        Ok((count, steps)) => (Ok(steps), count),
+    let found = match outcome {
+        Ok((count, steps)) => {
+            write!(f, "steps {steps}")?;
+            count
+        }
         Err(fault) => {
+            let unit = "pass";
             let refused = fault.refused();
-            (Err(refused), written(fault))
+            write!(f, "{}", RefusedAt { unit, refused })?;
+            written(fault)
         }
     };
-    say_outcome(f, "pass", told)?;
-    say_numbers(f, &places, found)
+    write!(f, "; found {found}")?;
+    for word in places.iter().take(found as usize) {
+        write!(f, ", {}", Hex(&word.to_le_bytes()))?;
+    }
+    Ok(())
 }
 
 // How many numbers a refused survey has written: one for each pass, but for a pass that failed.
@@ -102,31 +94,17 @@ fn written(fault: SurveyFault) -> u8 {
     }
 }
 
-fn say_numbers<W: fmt::Write>(f: &mut fmt::Formatter<W>, places: &[u64], found: u8) -> fmt::Result {
-    write!(f, "; found {found}")?;
-    for word in places.iter().take(found as usize) {
-        let number = Hex(word.to_le_bytes());
-        write!(f, ", {number}")?;
-    }
-    Ok(())
-}
-
 fn say_verdict<W: fmt::Write>(
     f: &mut fmt::Formatter<W>,
     outcome: Result<(bool, u32), OrderFault>,
 ) -> fmt::Result {
     match outcome {
-        Ok((programmed, steps)) => {
-            say_outcome(f, "exchange", Ok(steps))?;
-            f.write_str(if programmed {
-                "; held and programmed"
-            } else {
-                "; held, not programmed"
-            })
-        }
+        Ok((true, steps)) => write!(f, "steps {steps}; held and programmed"),
+        Ok((false, steps)) => write!(f, "steps {steps}; held, not programmed"),
         Err(fault) => {
+            let unit = "exchange";
             let (refused, index) = fault.refused();
-            say_outcome(f, "exchange", Err(refused))?;
+            write!(f, "{}", RefusedAt { unit, refused })?;
             match index {
                 None => Ok(()),
                 Some(index) => write!(f, "; first difference at index {index}"),

@@ -2,15 +2,14 @@
 mod tests {
     use kind::tags::Kind;
     use letters::script::play_letters;
-    use line::ends::OneTag;
-    use number::registration::Number;
     use plug::practice::PracticePlug;
     use rig::master::Rig;
-    use scratchpad::pad::PadMemory;
+    use samples::fault::SampleFault;
+    use samples::numbers::{PLUG, SEALED, WRONG_SEALED, number_of};
+    use samples::tags::tag_of;
     use sealed::tag::SealedTag;
     use std::test::Fail;
     use sums::sums::{crc8, crc16};
-    use tag::making::make_tag;
 
     // The published check values of CRC-8/MAXIM-DOW and CRC-16/ARC, and a worked registration number.
     #[test]
@@ -22,10 +21,10 @@ mod tests {
 
     #[test]
     fn numbers(rt: HostRuntime) {
-        assert!(rt; Number::new(0).is_ok());
-        assert!(rt; Number::new(0x5E01_0000_0000_0000).is_ok());
-        assert!(rt; Number::new(0x5F01_0000_0000_0000).is_err());
-        assert!(rt; Number::new(0xA200_0000_01B8_1C02).is_ok());
+        assert!(rt; number_of(PLUG).is_ok());
+        assert!(rt; number_of(SEALED).is_ok());
+        assert!(rt; number_of(WRONG_SEALED).is_err());
+        assert!(rt; number_of(0xA200_0000_01B8_1C02).is_ok());
     }
 
     // Page 1 write-protected, page 2 in EPROM mode, nothing locked by 84h.
@@ -51,20 +50,22 @@ mod tests {
         Ok(())
     }
 
+    // Plays letters on a tag of any kind.
+    fn play<K: Kind + Drop>(
+        image: &[u8],
+        letters: &[u8],
+        output: &mut [u8],
+    ) -> Result<usize, SampleFault> {
+        let mut rig = Rig::new(tag_of::<K>(PLUG, image)?);
+        Ok(play_letters(&mut rig, letters, output))
+    }
+
     #[test]
-    fn script_example(rt: HostRuntime) -> Result<(), Fail> {
-        let Ok(number) = Number::new(0) else {
-            return Err(Fail::new("no number"));
-        };
-        let mut place: Option<OneTag<PadMemory<PracticePlug>>> = None;
-        assert!(rt; make_tag(&mut place, number, &[0; 63]).is_err());
-        assert!(rt; make_tag(&mut place, number, &[0; 64]).is_ok());
-        let Some(tag) = place else {
-            return Err(Fail::new("no tag"));
-        };
-        let mut rig = Rig::new(tag);
+    fn script_example(rt: HostRuntime) -> Result<(), SampleFault> {
+        assert!(rt; tag_of::<PracticePlug>(PLUG, &[0; 63]).is_err());
         let mut output = [0; 14];
-        assert_eq!(rt; play_letters(&mut rig, b"R1PR1100110011", &mut output), 14);
+        let count = play::<PracticePlug>(&[0; 64], b"R1PR1100110011", &mut output)?;
+        assert_eq!(rt; count, 14);
         assert!(rt; output == *b"-1.p1100110000");
         Ok(())
     }

@@ -1,7 +1,7 @@
 use std::io::{BufRead, BufReader};
 use sums::sums::{crc8, crc16};
 
-// The value of a hexadecimal digit.
+// The value of a hexadecimal digit. `char::to_digit(16)` would take the lower-case letters too.
 pub fn digit(letter: u8) -> Option<u8> {
     match letter {
         b'0'..=b'9' => Some(letter - b'0'),

@@ -2,7 +2,7 @@
 use Rattle.std.proofs.Common.{◌≡◌, ℕ, zero, suc, ◌<◌, Bool, true, false, not, ◌&&◌, ◌||◌, List, [], ◌∷◌, ◌++◌, map, length, replicate, sym, refl, ap, ◌∙◌, subst, ap₂, append_assoc}
 use mathlib.Core.Bool.{and-true, or-false}
 use Rattle.bits.specs.Bits.{bits_of, value, bits_all}
-use Rattle.bits.proofs.Queues.{value_bits}
+use Rattle.bits.specs.Widths.{value_bits}
 use Rattle.kind.specs.Kinds.{Rules, Bytes}
 use Rattle.memory.specs.Scratchpads.{Regs, Awaited, Doing, idle, taking, sending, alternating, Work, on, got_byte, take_on, pull_doing, is_programming}
 use Rattle.memory.specs.Memories.{Memory, padded}

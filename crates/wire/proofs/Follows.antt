@@ -1,10 +1,10 @@
 -- An exchange's outcome is the run of its pulses.
 use Rattle.std.proofs.Common.{◌≡◌, ℕ, zero, suc, Bool, true, false, cond, List, [], ◌∷◌, Ok, Err, Result, sym, refl, ap, ◌∙◌}
-use mathlib.Core.Path.{fun_ext}
 use Rattle.bits.specs.Bits.{bits_all, value}
 use Rattle.number.specs.Numbers.{word_bytes}
 use Rattle.rig.specs.Rigs.{RigState, Pulse, resets, slots, dwells, pulse, refused, counted}
 use Rattle.wire.specs.Jobs.{Job, ret, step, Ran, Got, done, line_busy, run, send_bytes, read_bytes}
+use Rattle.wire.proofs.Steps.{under}
 use Rattle.wire.proofs.Bind.{bind, run_bind, send_bind, onward as after}
 use Rattle.rig.specs.Meaning.{Counting, beat}
 use Rattle.rig.specs.declared.fault.RigFault.{RigFault}
@@ -15,9 +15,6 @@ use Rattle.wire.specs.declared.fault.Why.TheVariants.{NoPresence}
 use Rattle.wire.specs.declared.fault.ExchangeFault.{ExchangeFault}
 use Rattle.wire.specs.declared.fault.ExchangeFault.TheVariants.{Rig, Failed}
 use Rattle.wire.specs.Exchanges.{Exchange, answer, refuse, opening, closing, dwelling, send, read, tells, pulses, Told}
-
-under : {A : Type 0} (p : Pulse) (k k' : Bool → Job A) → ((b : Bool) → k b ≡ k' b) → step p k ≡ step p k'
-under p k k' h = ap (step p) (fun_ext h)
 
 bytes_bind : {A : Type 0} (n : ℕ) (f : List ℕ → List ℕ) (k : List ℕ → Job A) → read_bytes n (λ xs. k (f xs)) ≡ bind (read_bytes n (λ xs. ret (f xs))) k
 bytes_bind zero f k = refl
@@ -101,11 +98,15 @@ module _ {A B : Type 0} (good : A → Job B) (bad : Why → ℕ → Job B) where
       opened : Bool → Job B
       opened b = elim b [ true ↦ send_bytes (0x55 ∷ []) (send_bytes (word_bytes x) (pulses k good bad)) | false ↦ bad NoPresence e ]
 
-      begun : Bool → Counting → Counting × Result (Unit {0}) ExchangeFault
-      begun b s =
-          cond b (onward Rig (does (sends (0x55 ∷ [])) s) (λ _ s. onward Rig (does (sends (word_bytes x)) s) (λ _ s. fine s))) (s, Err (Failed NoPresence e s.steps))
+      named : Counting → Counting × Result (Unit {0}) ExchangeFault
+      named s = onward Rig (does (sends (0x55 ∷ [])) s) (λ _ s. onward Rig (does (sends (word_bytes x)) s) (λ _ s. fine s))
 
-      through : (s : Counting) (r : Result Bool RigFault) → onwards Rig s r (λ b s. onward keep (begun b s) (λ _ s. tells k s)) ≡ onward keep (onwards Rig s r begun) (λ _ s. tells k s)
+      begun : Bool → Counting → Counting × Result (Unit {0}) ExchangeFault
+      begun b s = onward keep (s, cond b (Ok (tt {0})) (Err (Failed NoPresence e s.steps))) (λ _ s. named s)
+
+      through : (s : Counting) (r : Result Bool RigFault)
+          → onwards Rig s r (λ b s. onward keep (begun b s) (λ _ s. tells k s))
+          ≡ onward keep (onward keep (onwards Rig s r (λ b s. (s, cond b (Ok (tt {0})) (Err (Failed NoPresence e s.steps))))) (λ _ s. named s)) (λ _ s. tells k s)
       through s (Ok b) = refl
       through s (Err y) = refl
 

@@ -3,7 +3,7 @@ use Rattle.std.proofs.Common.{◌≡◌, ℕ, zero, suc, ◌^◌, ◌<◌, Bool,
 use mathlib.Core.Bool.{or-true}
 use Rattle.std.proofs.lemmas.Bool.{true≢false, or_parts}
 use Rattle.bits.specs.Bits.{bits_of, bits_all, value}
-use Rattle.bits.proofs.Queues.{value_bits}
+use Rattle.bits.specs.Widths.{value_bits}
 use Rattle.kind.specs.Kinds.{Rules, Bytes}
 use Rattle.memory.specs.Scratchpads.{Regs, on, sending, await, command, Padded}
 use Rattle.memory.specs.Memories.{Memory, padded}

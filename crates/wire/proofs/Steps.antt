@@ -1,7 +1,10 @@
 -- How programs of pulses go on.
 use Rattle.std.proofs.Common.{◌≡◌, ℕ, zero, suc, ◌≤◌, Bool, true, false, List, [], ◌∷◌, ◌++◌, Ok, Err, Result, sym, refl, ap, ◌∙◌, append_assoc, arith}
 use mathlib.Core.Path.{fun_ext}
+use Rattle.std.specs.Result.{IsErrAnd}
+use Rattle.std.proofs.lemmas.Result.{err_from_is_err_and}
 use Rattle.bits.specs.Bits.{bit, value}
+use Rattle.bits.specs.Words.{shifted}
 use Rattle.rig.specs.Rigs.{RigState, Pulse, slots, pulse, refused, counted}
 use Rattle.wire.specs.Jobs.{Job, ret, step, Ran, Got, done, line_busy, run}
 use Rattle.wire.specs.Jobs.{read_bytes}
@@ -9,7 +12,11 @@ use Rattle.wire.proofs.Bind.{bind, run_bind, onward as after}
 use Rattle.rig.specs.Meaning.{Counting, beat}
 use Rattle.rig.specs.declared.fault.RigFault.{RigFault}
 use Rattle.rig.specs.declared.fault.RigFault.TheVariants.{LineBusy}
-use Rattle.wire.specs.Wires.{outcome, does, onward, keep, sends, reads_byte, shift_in}
+use Rattle.wire.specs.Wires.{outcome, does, onward, keep, sends, reads_byte}
+
+-- what the exit of a `?` returns
+pub exits : {T E : Type 0} {x : E} {r : Result T E} → IsErrAnd r (λ y. y ≡ x) → r ≡ Err x
+exits {T} {E} {x} {r} h = let p = err_from_is_err_and r h in p.1 ∙ ap Err p.2
 
 pub does-ret : {A : Type 0} (a : A) (d : Counting) → does (ret a) d ≡ (d, Ok a)
 unfolding does
@@ -56,14 +63,14 @@ sends_more b bs = refl
 -- eight bits shifted in are the value
 abbrev shift_all : ℕ → List Bool → ℕ
 shift_all got [] = got
-shift_all got (b ∷ bs) = shift_all (shift_in got b) bs
+shift_all got (b ∷ bs) = shift_all (shifted 0x80 got b) bs
 
 -- what is left of reading a byte
 abbrev pub read_rest : ℕ → ℕ → Job ℕ
 read_rest got zero = ret got
-read_rest got (suc n) = step (slots true) (λ b. read_rest (shift_in got b) n)
+read_rest got (suc n) = step (slots true) (λ b. read_rest (shifted 0x80 got b) n)
 
-under : {A : Type 0} (p : Pulse) (k k' : Bool → Job A) → ((b : Bool) → k b ≡ k' b) → step p k ≡ step p k'
+pub under : {A : Type 0} (p : Pulse) (k k' : Bool → Job A) → ((b : Bool) → k b ≡ k' b) → step p k ≡ step p k'
 under p k k' h = ap (step p) (fun_ext h)
 
 small : (b : Bool) → bit b ≤ 1

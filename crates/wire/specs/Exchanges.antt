@@ -21,13 +21,13 @@ abbrev pub fault_report : {A : Type 0} → ExchangeFault → Report A
 fault_report (Rig f) = refused_as (refusal f) 0 0
 fault_report (Failed why e s) = refused_as (number_of why) e s
 
--- reset with presence, 55h and the number, in an exchange of a job
+-- a reset that must find a chip, in an exchange of a job
+abbrev pub present : ℕ → Counting → Counting × Result (Unit {0}) ExchangeFault
+present e d = onward Rig (beat resets d) (λ present d. (d, cond present (Ok tt) (Err (Failed NoPresence e d.steps))))
+
+-- reset with presence, 55h and the number
 abbrev pub begins : ℕ → ℕ → Counting → Counting × Result (Unit {0}) ExchangeFault
-begins x e d =
-    onward Rig (beat resets d) (λ present d.
-    cond present
-    (onward Rig (does (sends (0x55 ∷ [])) d) (λ _ d. onward Rig (does (sends (word_bytes x)) d) (λ _ d. (d, Ok tt))))
-    (d, Err (Failed NoPresence e d.steps)))
+begins x e d = onward keep (present e d) (λ _ d. onward Rig (does (sends (0x55 ∷ [])) d) (λ _ d. onward Rig (does (sends (word_bytes x)) d) (λ _ d. (d, Ok tt))))
 
 pub data Exchange (A : Type 0) : Type 0 where
   answer : A → Exchange A

@@ -1,6 +1,6 @@
 -- A program of pulses on a rig at work, and the bytes that it sends and reads.
-use Rattle.std.specs.Prelude.{ℕ, ◌+◌, ◌*◌, ◌/◌, Bool, List, Ok, Err, Result}
-use Rattle.bits.specs.Bits.{bit, value}
+use Rattle.std.specs.Prelude.{ℕ, List, Ok, Err, Result}
+use Rattle.bits.specs.Bits.{value}
 use Rattle.wire.specs.Jobs.{Job, ret, Ran, Got, done, line_busy, run}
 use Rattle.wire.specs.Jobs.{read_bits, send_bytes, read_bytes}
 use Rattle.rig.specs.Meaning.{Counting}
@@ -37,7 +37,3 @@ reads_byte = read_bits 8 (λ bs. ret (value bs))
 
 unfoldable pub reads : ℕ → Job (List ℕ)
 reads n = read_bytes n (λ xs. ret xs)
-
--- a bit shifted into a byte from above
-abbrev pub shift_in : ℕ → Bool → ℕ
-shift_in got b = got / 2 + 128 * bit b

@@ -1,7 +1,8 @@
 ghost use Rattle.std.specs.Prelude.{◌≡◌, [], ◌∷◌};
 ghost use Rattle.rig.specs.Meaning.{counting};
-ghost use Rattle.wire.specs.Wires.{does, sends, reads, reads_byte, shift_in};
+ghost use Rattle.wire.specs.Wires.{does, sends, reads, reads_byte};
 
+use bits::words::ShiftIn;
 use line::bus::Line;
 use rig::fault::RigFault;
 use rig::master::Rig;
@@ -10,8 +11,8 @@ pub fn send_byte<L: Line>(rig: &mut Rig<L>, byte: u8) -> Result<(), RigFault>
     ensures { (counting L.chips rig.new, result) ≡ does (sends (byte ∷ [])) (counting L.chips rig.old) }
 {
     let mut rest = byte;
-    for i in 0..8u8 {
-        let _ = rig.slot(rest % 2 == 1)?;
+    for _ in 0..u8::BITS {
+        rig.slot(rest % 2 == 1)?;
         rest /= 2;
     }
     Ok(())
@@ -29,27 +30,20 @@ pub fn send_bytes<L: Line>(rig: &mut Rig<L>, bytes: &[u8]) -> Result<(), RigFaul
 pub fn read_byte<L: Line>(rig: &mut Rig<L>) -> Result<u8, RigFault>
     ensures { (counting L.chips rig.new, result) ≡ does reads_byte (counting L.chips rig.old) }
 {
-    let mut got = 0;
-    for i in 0..8u8 {
+    let mut got = 0u8;
+    for _ in 0..u8::BITS {
         let bit = rig.slot(true)?;
-        got = shifted(got, bit);
+        got = got.shift_in(bit);
     }
     Ok(got)
-}
-
-// A bit shifted in from above.
-fn shifted(got: u8, bit: bool) -> u8
-    ensures { result ≡ shift_in got bit }
-{
-    if bit { got / 2 + 128 } else { got / 2 }
 }
 
 pub fn read_bytes<L: Line, const N: usize>(rig: &mut Rig<L>) -> Result<[u8; N], RigFault>
     ensures { (counting L.chips rig.new, result) ≡ does (reads N) (counting L.chips rig.old) }
 {
-    let mut got = [0; N];
-    for i in 0..N {
-        got[i] = read_byte(rig)?;
+    let mut bytes = [0; N];
+    for byte in &mut bytes {
+        *byte = read_byte(rig)?;
     }
-    Ok(got)
+    Ok(bytes)
 }

@@ -1,60 +1,76 @@
 ghost use Rattle.std.specs.Prelude.{◌≡◌};
+ghost use Rattle.rig.specs.Meaning.{counting};
+ghost use Rattle.refusals.specs.Refusals.{number_of as numbered};
 ghost use Rattle.wire.specs.Jobs.{Report, refused_as};
 ghost use Rattle.wire.specs.Exchanges.{number_of, fault_report};
-ghost use Rattle.wire.specs.declared.fault.ExchangeFault.TheVariants.{Rig};
+ghost use Rattle.wire.specs.declared.fault.ExchangeFault.TheVariants.{Rig, Failed};
 
+use line::bus::Line;
+use refusals::refusal::Refusal;
 use rig::fault::RigFault;
+use rig::master::Rig;
 
 // What an exchange found wrong.
-#[derive(Clone, Copy)]
+#[derive(Clone, Copy, Debug, PartialEq, Eq)]
 pub enum Why {
     NoPresence,
     Garbled,
 }
 
 // Why an exchange failed: refused by the rig, or what it found, with its number in the job and the steps made.
-#[derive(Clone, Copy)]
+#[derive(Clone, Copy, Debug, PartialEq, Eq)]
 pub enum ExchangeFault {
     Rig(RigFault),
     Failed { why: Why, exchange: u8, steps: u32 },
 }
 
-// What a refused job tells: the refusal's number, the exchange or pass (0 before any step), and the steps made.
-#[derive(Clone, Copy)]
+// What a refused job tells: the refusal, the exchange or pass (0 before any step), and the steps made.
+#[derive(Clone, Copy, Debug, PartialEq, Eq)]
 pub struct Refused {
-    pub number: u8,
+    pub refusal: Refusal,
     pub exchange: u8,
     pub steps: u32,
 }
 
 impl Refused {
     // Refused before any step.
-    pub fn at_once(number: u8) -> Refused
-        ensures { (result.number ≡ number) × (result.exchange ≡ 0) × (result.steps ≡ 0) }
+    pub fn at_once(refusal: Refusal) -> Refused
+        ensures { (result.refusal ≡ refusal) × (result.exchange ≡ 0) × (result.steps ≡ 0) }
     {
         Refused {
-            number,
+            refusal,
             exchange: 0,
             steps: 0,
         }
     }
 }
 
+// A method as of every fault: `From` for `Refusal` would read no plainer at a call.
 impl Why {
-    // The number of the refusal.
-    pub fn refusal(&self) -> u8
-        ensures { result ≡ number_of self.now }
+    pub fn refusal(&self) -> Refusal
+        ensures { numbered result ≡ number_of self.now }
     {
         match self {
-            Why::NoPresence => 5,
-            Why::Garbled => 6,
+            Why::NoPresence => Refusal::NoPresence,
+            Why::Garbled => Refusal::Garbled,
         }
     }
 }
 
 impl ExchangeFault {
+    // What an exchange found wrong, with the steps made so far.
+    pub fn found<L: Line>(rig: &Rig<L>, why: Why, exchange: u8) -> ExchangeFault
+        ensures { result ≡ Failed why exchange (counting L.chips rig.now).steps }
+    {
+        ExchangeFault::Failed {
+            why,
+            exchange,
+            steps: rig.steps(),
+        }
+    }
+
     pub fn refused(&self) -> Refused
-        ensures { ◌≡◌ {A = Report (Unit {0})} (refused_as result.number result.exchange result.steps) (fault_report self.now) }
+        ensures { ◌≡◌ {A = Report (Unit {0})} (refused_as (numbered result.refusal) result.exchange result.steps) (fault_report self.now) }
     {
         match self {
             ExchangeFault::Rig(fault) => Refused::at_once(fault.refusal()),
@@ -63,7 +79,7 @@ impl ExchangeFault {
                 exchange,
                 steps,
             } => Refused {
-                number: why.refusal(),
+                refusal: why.refusal(),
                 exchange: *exchange,
                 steps: *steps,
             },

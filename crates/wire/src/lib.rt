@@ -4,3 +4,4 @@
 pub mod bytes;
 pub mod fault;
 pub mod opening;
+pub mod target;

@@ -1,30 +1,46 @@
 -- One place more of a comparison, and what it tells of two lists.
-use Rattle.std.proofs.Common.{◌≡◌, ℕ, suc, ◌+◌, ◌<◌, ◌≤◌, Bool, true, false, eqb, ◌≢◌, List, [], ◌∷◌, length, get_or, drop, Some, None, Option, sym, refl, ap, ◌∙◌, ap₂, add-one, arith, drop-cons, eq-eqb, ne_eqb}
-use Rattle.std.proofs.lemmas.List.{at_drop_all}
+use Rattle.std.specs.List.{position_from, zip}
+use Rattle.std.specs.Option.{option_or}
+use Rattle.std.specs.Cmp.Lexicographic.{pointwise, same_text, other_text}
+use Rattle.std.proofs.lemmas.Iterator.Adapters.{position_from-zero}
+use Rattle.std.proofs.Common.{not, cond, position, min, nat_eq, ◌≡◌, ℕ, suc, ◌+◌, Bool, true, false, eqb, ◌≢◌, List, [], ◌∷◌, length, Some, None, Option, sym, refl, ap, ◌∙◌, ap₂, arith, eq-eqb}
 use Rattle.std.proofs.lemmas.Bool.{eqb-true}
 use Rattle.writing.specs.Differences.{differ_from, first_difference}
 
-abbrev next : ℕ → List ℕ → List ℕ → Bool → Option ℕ
-next i a b t = elim t [ true ↦ differ_from (i + 1) (drop (suc i) a) (drop (suc i) b) | false ↦ Some i ]
+-- where they differ below both lengths, and beyond
+abbrev differs : ℕ × ℕ → Bool
+differs p = not (eqb p.0 p.1)
 
-both : (a b : List ℕ) (i : ℕ) → i < length a → i < length b → differ_from i (drop i a) (drop i b) ≡ next i a b (eqb (get_or a i 0) (get_or b i 0))
-both a b i ha hb = ap₂ (differ_from i) (drop-cons a i 0 ha) (drop-cons b i 0 hb)
+within : (i : ℕ) (t : Bool) (u v : Option ℕ) → u ≡ v → cond (not t) (Some i) u ≡ (elim t as (λ _. Option ℕ) [ true ↦ v | false ↦ Some i ])
+within i true u v e = e
+within i false u v e = refl
 
-pub differ_same : (a b : List ℕ) (i : ℕ) → i < length a → i < length b → get_or a i 0 ≡ get_or b i 0 → differ_from i (drop i a) (drop i b) ≡ differ_from (i + 1) (drop (i + 1) a) (drop (i + 1) b)
-differ_same a b i ha hb e =
-    both a b i ha hb ∙ ap (next i a b) (eq-eqb (get_or a i 0) (get_or b i 0) e) ∙ ap (λ k. differ_from (i + 1) (drop k a) (drop k b)) (sym (add-one i))
+from_within : (i : ℕ) (a b : List ℕ) → length a ≡ length b → position_from differs i (zip a b) ≡ differ_from i a b
+from_within i [] [] h = refl
+from_within i [] (y ∷ ys) h = absurd (omega arith)
+from_within i (x ∷ xs) [] h = absurd (omega arith)
+from_within i (x ∷ xs) (y ∷ ys) h = within i (eqb x y) _ _ (from_within (i + 1) xs ys (omega arith))
 
-pub differ_here : (a b : List ℕ) (i : ℕ) → i < length a → i < length b → get_or a i 0 ≢ get_or b i 0 → differ_from i (drop i a) (drop i b) ≡ Some i
-differ_here a b i ha hb n = both a b i ha hb ∙ ap (next i a b) (ne_eqb (get_or a i 0) (get_or b i 0) n)
+beyond : (i : ℕ) (t : Bool) (u v o : Option ℕ) → option_or u o ≡ v → option_or (cond (not t) (Some i) u) o ≡ (elim t as (λ _. Option ℕ) [ true ↦ v | false ↦ Some i ])
+beyond i true u v o e = e
+beyond i false u v o e = refl
 
-pub differ_left : (a b : List ℕ) (i : ℕ) → i < length a → length b ≤ i → differ_from i (drop i a) (drop i b) ≡ Some i
-differ_left a b i ha hb = ap₂ (differ_from i) (drop-cons a i 0 ha) (at_drop_all (λ l. l) b i hb)
+from_beyond : (i : ℕ) (a b : List ℕ) → (length a ≡ length b → ⊥) → option_or (position_from differs i (zip a b)) (Some (i + min (length a) (length b))) ≡ differ_from i a b
+from_beyond i [] [] h = absurd (h refl)
+from_beyond i [] (y ∷ ys) h = ap Some (omega arith)
+from_beyond i (x ∷ xs) [] h = ap Some (omega arith)
+from_beyond i (x ∷ xs) (y ∷ ys) h =
+    let e : i + min (length (x ∷ xs)) (length (y ∷ ys)) ≡ i + 1 + min (length xs) (length ys) = omega arith in
+    ap (λ n. option_or (position_from differs i (zip (x ∷ xs) (y ∷ ys))) (Some n)) e ∙ beyond i (eqb x y) _ _ _ (from_beyond (i + 1) xs ys (λ q. h (ap suc q)))
 
-pub differ_right : (a b : List ℕ) (i : ℕ) → length a ≤ i → i < length b → differ_from i (drop i a) (drop i b) ≡ Some i
-differ_right a b i ha hb = ap₂ (differ_from i) (at_drop_all (λ l. l) a i ha) (drop-cons b i 0 hb)
+pub differs_within : (a b : List ℕ) → length a ≡ length b → position differs (zip a b) ≡ first_difference a b
+unfolding first_difference
+differs_within a b h = position_from-zero differs (zip a b) ∙ from_within 0 a b h
 
-pub differ-none : (a b : List ℕ) (i : ℕ) → length a ≤ i → length b ≤ i → differ_from i (drop i a) (drop i b) ≡ None
-differ-none a b i ha hb = ap₂ (differ_from i) (at_drop_all (λ l. l) a i ha) (at_drop_all (λ l. l) b i hb)
+pub differs_beyond : (a b : List ℕ) → (length a ≡ length b → ⊥) → option_or (position differs (zip a b)) (Some (min (length a) (length b))) ≡ first_difference a b
+unfolding first_difference
+differs_beyond a b h = ap (λ o. option_or o (Some (min (length a) (length b)))) (position_from-zero differs (zip a b))
+    ∙ ap (λ n. option_or (position_from differs 0 (zip a b)) (Some n)) (let e : min (length a) (length b) ≡ 0 + min (length a) (length b) = omega arith in e) ∙ from_beyond 0 a b h
 
 -- equal lists differ nowhere, and lists that differ nowhere are equal
 differ_self : (i : ℕ) (xs : List ℕ) → differ_from i xs xs ≡ None
@@ -54,3 +70,14 @@ first_equal xs ys e = differ_equal 0 xs ys e
 
 pub first_differs : (xs ys : List ℕ) (i : ℕ) → first_difference xs ys ≡ Some i → xs ≢ ys
 first_differs xs ys i e q = none-some i (sym e ∙ ap (first_difference xs) (sym q) ∙ first_self xs)
+
+-- what `==` of two slices tells of them
+pub found_same : (xs ys : List ℕ) → true ≡ pointwise nat_eq xs ys → first_difference xs ys ≡ None
+found_same xs ys h = ap (first_difference xs) (sym (same_text xs ys h)) ∙ first_self xs
+
+pub found_other : (xs ys : List ℕ) → false ≡ pointwise nat_eq xs ys → (i : ℕ) × (first_difference xs ys ≡ Some i)
+found_other xs ys h = some (first_difference xs ys) (λ e. other_text xs ys h (first_equal xs ys e))
+  where
+    some : (o : Option ℕ) → (o ≡ None → ⊥) → (i : ℕ) × (o ≡ Some i)
+    some (Some i) n = (i, refl)
+    some None n = absurd (n refl)

@@ -1,9 +1,11 @@
 -- The exchanges that write a row: into the scratchpad, back from it, and the copy.
-use Rattle.std.specs.Prelude.{ℕ, ◌+◌, ◌/◌, ◌%◌, Bool, List, [], ◌∷◌, take, drop, Some, None, ◌==◌, slice_index}
+use Rattle.std.specs.Prelude.{◌≡◌, ℕ, ◌+◌, ◌/◌, ◌%◌, Bool, List, [], ◌∷◌, take, drop, Some, None, Option, Ok, Err, Result, ◌==◌, slice_index}
 use Rattle.sums.specs.Sums.{crc16, inverted}
 use Rattle.kind.specs.Kinds.{row_length}
 use Rattle.wire.specs.Exchanges.{Exchange, answer, refuse, opening, dwelling, send, read}
 use Rattle.wire.specs.declared.fault.Why.TheVariants.{Garbled}
+use Rattle.wire.specs.declared.fault.ExchangeFault.{ExchangeFault}
+use Rattle.wire.specs.declared.fault.ExchangeFault.TheVariants.{Failed}
 use Rattle.writing.specs.Differences.{first_difference}
 
 -- the status of a scratchpad that took a whole row, and what a tag says once it has programmed
@@ -12,6 +14,11 @@ whole_status = 0x07
 
 abbrev pub programmed_byte : ℕ
 programmed_byte = 0xAA
+
+-- bytes that were to be others differ from them in this place, or in none: garbled, in an exchange and after some steps
+abbrev pub Expected : Option ℕ → ℕ → ℕ → Result (Unit {0}) ExchangeFault → Type 0
+Expected o e s (Ok u) = o ≡ None
+Expected o e s (Err f) = (i : ℕ) × (o ≡ Some i) × (f ≡ Failed Garbled e s)
 
 -- (1) 0Fh, address, data, read the sum
 abbrev pub loads : ℕ → ℕ → List ℕ → Exchange (Unit {0})

@@ -6,21 +6,21 @@ use crate::fault::ImageFault;
 use crate::image::Image;
 use crate::rows::{ROW, blend};
 
-impl<const W: usize> Image<W> {
-    // Refusal 2 where there are not W bytes.
-    pub fn from_slice(bytes: &[u8]) -> Result<Image<W>, ImageFault>
-        ensures { image_of result ≡ imaging W bytes.now }
-    {
-        if bytes.len() != W {
-            return Err(ImageFault::WrongLength);
-        }
-        let mut held = [0; W];
-        for i in 0..W {
-            held[i] = bytes[i];
-        }
-        Ok(Image { bytes: held })
-    }
+// Refusal 2 where there are not W bytes.
+impl<const W: usize> TryFrom<&[u8]> for Image<W> {
+    type Error = ImageFault;
 
+    ghost try_from_gives = { λ bytes image. image_of image ≡ imaging W bytes.now };
+
+    fn try_from(bytes: &[u8]) -> Result<Image<W>, ImageFault> {
+        match <[u8; W]>::try_from(bytes) {
+            Ok(bytes) => Ok(Image { bytes }),
+            Err(_) => Err(ImageFault::WrongLength),
+        }
+    }
+}
+
+impl<const W: usize> Image<W> {
     // The byte at an address, FFh at W and above.
     pub fn read(&self, address: u16) -> u8
         ensures { result ≡ at self.now.bytes address }
@@ -34,6 +34,7 @@ impl<const W: usize> Image<W> {
         ensures { self.new.bytes ≡ program W row new.now mask self.old.bytes }
     {
         let first = row as usize;
+        // By index: the same one counts in the row, the mask and the image.
         for i in 0..ROW {
             let at = first + i;
             if at < W {

@@ -1,9 +1,11 @@
 ghost use Rattle.std.specs.Prelude.{◌≡◌};
 ghost use Rattle.bits.specs.Bits.{byte_of};
+ghost use Rattle.refusals.specs.Refusals.{number_of};
 ghost use Rattle.number.specs.Numbers.{Checked, checks, making, word_bytes};
 ghost use Rattle.number.specs.Making.{made_of, refusal};
 
 use crate::registration::{Number, NumberFault};
+use refusals::refusal::Refusal;
 use sums::sums::crc8;
 
 // The check byte is the CRC-8 of the seven bytes before it.
@@ -14,18 +16,22 @@ fn right_sum(word: u64) -> bool
     crc8(&bytes[0..7]) == bytes[7]
 }
 
-impl Number {
-    // The number in a word, if its check byte is right; else refusal 1.
-    pub fn new(word: u64) -> Result<Number, NumberFault>
-        ensures { made_of result ≡ making word }
-    {
+// The number in a word, if its check byte is right; else refusal 1.
+impl TryFrom<u64> for Number {
+    type Error = NumberFault;
+
+    ghost try_from_gives = { λ word number. made_of number ≡ making word };
+
+    fn try_from(word: u64) -> Result<Number, NumberFault> {
         if right_sum(word) {
             Ok(Number { word })
         } else {
             Err(NumberFault::WrongSum)
         }
     }
+}
 
+impl Number {
     pub fn word(&self) -> u64
         ensures value { result ≡ self.now.word }
         ensures checked { Checked result }
@@ -44,17 +50,16 @@ impl Number {
     pub fn family(&self) -> u8
         ensures { result ≡ byte_of self.now.word 0 }
     {
-        (self.word() % 256) as u8
+        self.bytes()[0]
     }
 }
 
 impl NumberFault {
-    // The number of the refusal.
-    pub fn refusal(&self) -> u8
-        ensures { result ≡ refusal self.now }
+    pub fn refusal(&self) -> Refusal
+        ensures { number_of result ≡ refusal self.now }
     {
         match self {
-            NumberFault::WrongSum => 1,
+            NumberFault::WrongSum => Refusal::WrongSum,
         }
     }
 }

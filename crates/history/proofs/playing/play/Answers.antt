@@ -1,13 +1,13 @@
-use Rattle.std.proofs.Common.{◌≡◌, ◌+◌, ◌<◌, get_or, List, map, length, take, drop, sym, ap, ◌∙◌, subst, arith}
-use Rattle.std.proofs.lemmas.List.{drop-set-lt, get_or_default}
+use Rattle.std.proofs.Common.{◌≡◌, ◌+◌, ◌<◌, List, map, length, take, drop, sym, ap, ◌∙◌, subst, arith}
+use Rattle.std.proofs.lemmas.List.{drop-set-lt, get_or-take, length-take}
+use Rattle.std.proofs.lemmas.Grind.{drop_more_same}
 use Rattle.rig.specs.Rigs.{RigState}
 use Rattle.rig.specs.Meaning.{rig_of}
-use Rattle.history.specs.Calls.{Reply, serve}
+use Rattle.history.specs.Calls.{Reply}
 use Rattle.history.specs.Laws.{numbers}
-use Rattle.history.specs.Meaning.{request_of, reply_of}
-use Rattle.history.proofs.Runs.{drop-on, Played, played_more}
+use Rattle.history.specs.Meaning.{request_of}
+use Rattle.history.proofs.Runs.{Played, played_more}
 use Rattle.history.specs.declared.calls.Call.{Call}
-use Rattle.history.specs.declared.calls.Call.TheVariants.{Reset}
 use Rattle.history.proofs.Stays.{numbers_stay, only_programming, steps_only_program, power_up_forgets, met_stays}
 use Rattle.history.proofs.Silent.{silent_unpowered}
 use Rattle.history.proofs.Outlives.{outlives_from}
@@ -20,22 +20,22 @@ loop-i-preserved g c =
     let i = c.loop-i.i in
     let calls = c.args.calls.now in
     let answers = c.loop-i.answers in
-    let a = c.make_call.result in
+    let q = c.call-item.result in
+    let short = length-take c.min-count.result calls in
     let asked : i < length calls = omega arith in
     let room : i < length answers = omega arith in
-    let below : i < i + 1 = omega arith in
-    -- place i is in the list, so it is the same at any default
-    let here : (q : Call) → get_or calls i q ≡ get_or calls i Reset = λ q. get_or_default calls i q Reset asked in
-    let one : ◌≡◌ {A = RigState × Reply} (rig_of g.L.Line.chips c.make_call.new.rig, reply_of a) (serve (request_of (get_or calls i Reset)) (rig_of g.L.Line.chips c.loop-i.rig)) = grind (arith, here) in (
-      played_more calls answers i (get_or calls i Reset) a (rig_of g.L.Line.chips c.args.rig.now) (rig_of g.L.Line.chips c.loop-i.rig) (rig_of g.L.Line.chips c.make_call.new.rig)
-          asked room c.loop-i.invariant.0 one (sym (here (get_or calls i Reset))),
-      drop-set-lt (i + 1) answers i a below ∙ drop-on answers c.args.answers.now i c.loop-i.invariant.1,
+    let called : i < c.min-count.result = omega arith in
+    let below : i < i + 1 = omega arith in (
+      played_more calls answers i q c.make_call.result (rig_of g.L.Line.chips c.args.rig.now) (rig_of g.L.Line.chips c.loop-i.rig)
+          (rig_of g.L.Line.chips c.make_call.new.rig) asked room c.loop-i.invariant.0 c.make_call.ensures
+          (c.call-item.is ∙ get_or-take c.min-count.result calls i q called),
+      drop-set-lt (i + 1) answers i c.make_call.result below ∙ drop_more_same answers c.args.answers.now i c.loop-i.invariant.1,
     )
 
 pub returns : goal.returns
 returns g c =
     let r = rig_of g.L.Line.chips c.args.rig.now in
-    let all : c.loop-i.i ≡ c.min-count.result = omega arith in
+    let all : c.loop-i.i ≡ c.min-count.result = omega (arith, length-take {A = Call}) in
     let told = subst (λ n. Played (rig_of g.L.Line.chips c.loop-i.rig) n c.loop-i.answers c.args.calls.now r) all c.loop-i.invariant.0 in
     record {
       count = omega arith;

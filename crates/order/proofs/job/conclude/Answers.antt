@@ -1,5 +1,5 @@
 use Rattle.std.proofs.Common.{ap, ◌∙◌}
-use Rattle.std.proofs.lemmas.Result.{err_from_is_err_and}
+use Rattle.wire.proofs.Steps.{exits}
 use Rattle.writing.specs.Differences.{first_difference}
 use Rattle.order.specs.Meaning.{judgement}
 use Rattle.order.proofs.Chain.{end3, end4, end5, ended}
@@ -7,20 +7,17 @@ use Rattle.order.proofs.job.conclude.Goals as goal
 
 pub returns-in_err-programmed : goal.returns-in_err-programmed
 returns-in_err-programmed g c =
-    let p = err_from_is_err_and c.from_residual.result c.from_residual.ensures.1 in
-    rw (p.1, p.2) (end3 c.args.number.word c.args.row c.args.new.now c.in_err-programmed.ensures)
+    rw (exits c.from_residual.ensures.1) (end3 c.args.target.number.word c.args.target.row c.args.new.now c.in_err-programmed.ensures)
 
 pub returns-in_err-found : goal.returns-in_err-found
 returns-in_err-found g c =
-    let p = err_from_is_err_and c.from_residual-in_err-found.result c.from_residual-in_err-found.ensures.1 in
-    rw (p.1, p.2) (end4 c.args.number.word c.args.row c.args.new.now c.in_ok-programmed.ensures c.in_err-found.ensures)
+    rw (exits c.from_residual-in_err-found.ensures.1) (end4 c.args.target.number.word c.args.target.row c.args.new.now c.in_ok-programmed.ensures c.in_err-found.ensures)
 
 pub returns-in_err-close : goal.returns-in_err-close
 returns-in_err-close g c =
-    let p = err_from_is_err_and c.from_residual-in_err-close.result c.from_residual-in_err-close.ensures.1 in
-    rw (p.1, p.2) (end5 c.args.number.word c.args.row c.args.new.now c.in_ok-programmed.ensures c.in_ok-found.ensures c.in_err-close.ensures)
+    rw (exits c.from_residual-in_err-close.ensures.1) (end5 c.args.target.number.word c.args.target.row c.args.new.now c.in_ok-programmed.ensures c.in_ok-found.ensures c.in_err-close.ensures)
 
 pub returns : goal.returns
 returns g c =
-    ended c.args.number.word c.args.row c.args.new.now c.in_ok-programmed.ensures c.in_ok-found.ensures
+    ended c.args.target.number.word c.args.target.row c.args.new.now c.in_ok-programmed.ensures c.in_ok-found.ensures
     (c.judge.ensures ∙ ap (judgement c.in_ok-programmed.programmed (first_difference c.args.new.now c.in_ok-found.found)) c.steps.ensures) c.in_ok-close.ensures

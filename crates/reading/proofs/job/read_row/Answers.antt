@@ -1,10 +1,10 @@
 use Rattle.std.proofs.Common.{◌≡◌, ℕ, List, map, sym, refl, ap, ◌∙◌, true≢false}
-use Rattle.std.proofs.lemmas.Result.{err_from_is_err_and}
 use Rattle.chip.specs.Steps.{bytes_of}
 use Rattle.rig.specs.Rigs.{RigState}
 use Rattle.rig.specs.Meaning.{rig_of}
 use Rattle.wire.specs.Jobs.{Report}
 use Rattle.reading.specs.Readings.{read_call}
+use Rattle.wire.proofs.Steps.{exits}
 use Rattle.wire.proofs.Selected.{line_laws}
 use Rattle.reading.proofs.Chain.{row_refused, read_ok, read_err}
 use Rattle.reading.proofs.Quiet.{bytes_stay, busy_unchanged, busy-refused}
@@ -31,11 +31,10 @@ returns-then-row-ne0 g c =
 
 pub returns-in_err-found : goal.returns-in_err-found
 returns-in_err-found g c =
-    let p = err_from_is_err_and c.from_residual.result c.from_residual.ensures.1 in
     let told =
     read_err c.args.number.word c.args.row c.in_err-found.field-0.0 c.args.into.now c.if-row-ne0.false (ap (λ d. d.steps) c.begin_count.ensures) c.in_err-found.ensures
     ∙ ap (λ d. read_call c.args.number.word c.args.row d.rig) c.begin_count.ensures in
-    rw (p.1, p.2)
+    rw (exits c.from_residual.ensures.1)
     (record {
       told = told;
       kept = λ _. refl;

@@ -1,21 +1,18 @@
-use Rattle.std.proofs.lemmas.Result.{err_from_is_err_and}
+use Rattle.wire.proofs.Steps.{exits}
 use Rattle.reading.proofs.Chain.{end1, end2, end3, ended}
 use Rattle.reading.proofs.job.read_steps.Goals as goal
 
 pub returns-in_err-ask : goal.returns-in_err-ask
 returns-in_err-ask g c =
-    let p = err_from_is_err_and c.from_residual.result c.from_residual.ensures.1 in
-    rw (p.1, p.2) (end1 c.args.number.word c.args.row c.in_err-ask.ensures)
+    rw (exits c.from_residual.ensures.1) (end1 c.args.target.number.word c.args.target.row c.in_err-ask.ensures)
 
 pub returns-in_err-found : goal.returns-in_err-found
 returns-in_err-found g c =
-    let p = err_from_is_err_and c.from_residual-in_err-found.result c.from_residual-in_err-found.ensures.1 in
-    rw (p.1, p.2) (end2 c.args.number.word c.args.row c.in_ok-ask.ensures c.in_err-found.ensures)
+    rw (exits c.from_residual-in_err-found.ensures.1) (end2 c.args.target.number.word c.args.target.row c.in_ok-ask.ensures c.in_err-found.ensures)
 
 pub returns-in_err-close : goal.returns-in_err-close
 returns-in_err-close g c =
-    let p = err_from_is_err_and c.from_residual-in_err-close.result c.from_residual-in_err-close.ensures.1 in
-    rw (p.1, p.2) (end3 c.args.number.word c.args.row c.in_ok-ask.ensures c.in_ok-found.ensures c.in_err-close.ensures)
+    rw (exits c.from_residual-in_err-close.ensures.1) (end3 c.args.target.number.word c.args.target.row c.in_ok-ask.ensures c.in_ok-found.ensures c.in_err-close.ensures)
 
 pub returns : goal.returns
-returns g c = rw c.steps.ensures (ended c.args.number.word c.args.row c.in_ok-ask.ensures c.in_ok-found.ensures c.in_ok-close.ensures)
+returns g c = rw c.steps.ensures (ended c.args.target.number.word c.args.target.row c.in_ok-ask.ensures c.in_ok-found.ensures c.in_ok-close.ensures)

@@ -1,6 +1,6 @@
 use Rattle.std.proofs.Common.{◌≡◌, suc, ◌+◌, ◌-◌, ◌<◌, length, refl, arith}
-use Rattle.std.proofs.lemmas.Result.{err_from_is_err_and}
 use Rattle.rig.specs.Meaning.{counting}
+use Rattle.wire.proofs.Steps.{exits}
 use Rattle.survey.proofs.Passing.{left_start, left_more, later_more, untouched_more, left_last, left_fails, left_full}
 use Rattle.survey.proofs.listing.list_numbers.Goals as goal
 
@@ -12,27 +12,25 @@ loop-i-preserved g c =
     let d0 = counting g.L.Line.chips c.args.rig.now in
     let d = counting g.L.Line.chips c.loop-i.rig in
     let lt : c.loop-i.i < length c.loop-i.places = omega arith in (
-      λ n h. left_more c.args.room d0 c.loop-i.i n c.loop-i.way d c.loop-i.places c.args.places.now (c.loop-i.invariant.0 (suc n) (omega arith))
-          c.in_ok-word.word c.in_ok-word.next c.in_ok-word.ensures lt c.if-next-eq0.false,
+      λ n h. left_more c.args.room d0 c.loop-i.i n c.loop-i.way d c.loop-i.places c.args.places.now (c.loop-i.invariant.0 (suc n) (omega arith)) c.in_ok-pass.ensures lt c.in-Some.is,
       later_more c.args.room d0 c.loop-i.i (c.args.room - suc c.loop-i.i) c.loop-i.way d c.loop-i.places c.args.places.now (c.loop-i.invariant.0 (suc (c.args.room - suc c.loop-i.i)) (omega arith))
-          c.in_ok-word.word c.in_ok-word.next c.in_ok-word.ensures lt c.loop-i.invariant.1,
-      untouched_more c.loop-i.way (c.loop-i.i + 1) d0 d _ c.in_ok-word.word c.in_ok-word.next c.args.places.now c.loop-i.places _ c.loop-i.invariant.2 c.in_ok-word.ensures,
+          c.in_ok-pass.ensures lt c.loop-i.invariant.1,
+      untouched_more c.loop-i.way (c.loop-i.i + 1) d0 d _ c.in_ok-pass.pass c.args.places.now c.loop-i.places _ c.loop-i.invariant.2 c.in_ok-pass.ensures,
     )
 
-pub returns-then-next-eq0 : goal.returns-then-next-eq0
-returns-then-next-eq0 g c =
+pub returns-in_err-pass : goal.returns-in_err-pass
+returns-in_err-pass g c =
+    let n = c.args.room - suc c.loop-i.i in
+    rw (exits c.from_residual.ensures.1)
+    (left_fails c.args.room (counting g.L.Line.chips c.args.rig.now) c.loop-i.i n c.loop-i.way (counting g.L.Line.chips c.loop-i.rig) c.loop-i.places c.args.places.now (c.loop-i.invariant.0 (suc n) (omega arith))
+    c.in_err-pass.field-0.0 c.in_err-pass.ensures c.loop-i.invariant.1 c.loop-i.invariant.2)
+
+pub returns-in_default : goal.returns-in_default
+returns-in_default g c =
     let n = c.args.room - suc c.loop-i.i in
     let lt : c.loop-i.i < length c.loop-i.places = omega arith in
     left_last c.args.room (counting g.L.Line.chips c.args.rig.now) c.loop-i.i n c.loop-i.way (counting g.L.Line.chips c.loop-i.rig) c.loop-i.places c.args.places.now (c.loop-i.invariant.0 (suc n) (omega arith))
-    c.in_ok-word.word c.in_ok-word.next c.in_ok-word.ensures lt c.steps.result c.steps.ensures c.if-next-eq0.true c.loop-i.invariant.1
-
-pub returns-in_err-word : goal.returns-in_err-word
-returns-in_err-word g c =
-    let n = c.args.room - suc c.loop-i.i in
-    let p = err_from_is_err_and c.from_residual.result c.from_residual.ensures.1 in
-    rw (p.1, p.2)
-    (left_fails c.args.room (counting g.L.Line.chips c.args.rig.now) c.loop-i.i n c.loop-i.way (counting g.L.Line.chips c.loop-i.rig) c.loop-i.places c.args.places.now (c.loop-i.invariant.0 (suc n) (omega arith))
-    c.in_err-word.field-0.0 c.in_err-word.ensures c.loop-i.invariant.1 c.loop-i.invariant.2)
+    c.in_ok-pass.ensures lt c.steps.result c.steps.ensures c.in_default.is c.loop-i.invariant.1
 
 pub returns : goal.returns
 returns g c =

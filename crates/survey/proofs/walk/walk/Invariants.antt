@@ -5,5 +5,5 @@ use Rattle.survey.specs.Walks.{walks}
 use Rattle.survey.proofs.Words.{walk_rest}
 use Rattle.survey.proofs.walk.walk.Given as goal
 
-abbrev pub invariant-loop-i : goal.invariant-loop-i
-invariant-loop-i g l = (n : ℕ) → l.i + n ≡ 64 → does (walk_rest n l.way l.word l.next) (counting g.L.Line.chips l.rig) ≡ does (walks l.start) (counting g.L.Line.chips l.initial.rig)
+abbrev pub invariant-loop : goal.invariant-loop
+invariant-loop g l = (n : ℕ) → l.counter + n ≡ 64 → does (walk_rest n l.walk) (counting g.L.Line.chips l.rig) ≡ does (walks l.start) (counting g.L.Line.chips l.initial.rig)

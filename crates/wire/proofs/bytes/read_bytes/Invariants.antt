@@ -4,7 +4,7 @@ use Rattle.wire.specs.Wires.{does, reads}
 use Rattle.wire.proofs.Steps.{reads_rest}
 use Rattle.wire.proofs.bytes.read_bytes.Given as goal
 
-abbrev pub invariant-loop-i : goal.invariant-loop-i
-invariant-loop-i g l =
-    (length l.got ≡ g.row.N)
-    × ((n : ℕ) → l.i + n ≡ g.row.N → does (reads_rest (take l.i l.got) n) (counting g.L.Line.chips l.rig) ≡ does (reads g.row.N) (counting g.L.Line.chips l.initial.rig))
+abbrev pub invariant-loop-byte : goal.invariant-loop-byte
+invariant-loop-byte g l =
+    (length l.byte-items ≡ g.row.N)
+    × ((n : ℕ) → l.byte-index + n ≡ g.row.N → does (reads_rest (take l.byte-index l.byte-items) n) (counting g.L.Line.chips l.rig) ≡ does (reads g.row.N) (counting g.L.Line.chips l.initial.rig))

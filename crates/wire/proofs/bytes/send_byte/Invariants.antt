@@ -7,5 +7,5 @@ use Rattle.wire.specs.Wires.{does, sends}
 use Rattle.wire.proofs.bytes.send_byte.Given as goal
 
 -- what is left to do from here is what the whole does from the start
-abbrev pub invariant-loop-i : goal.invariant-loop-i
-invariant-loop-i g l = (n : ℕ) → l.i + n ≡ 8 → does (send_bits (bits_of n l.rest) (ret tt)) (counting g.L.Line.chips l.rig) ≡ does (sends (l.byte ∷ [])) (counting g.L.Line.chips l.initial.rig)
+abbrev pub invariant-loop : goal.invariant-loop
+invariant-loop g l = (n : ℕ) → l.counter + n ≡ 8 → does (send_bits (bits_of n l.rest) (ret tt)) (counting g.L.Line.chips l.rig) ≡ does (sends (l.byte ∷ [])) (counting g.L.Line.chips l.initial.rig)

@@ -1,7 +1,0 @@
-use Rattle.std.proofs.Common.{refl}
-use Rattle.bits.specs.Shift.{queue}
-use Rattle.bits.proofs.shift.Outgoing.word.Goals as goal
-
-pub returns : goal.returns
-unfolding queue
-returns c = refl

@@ -1,0 +1,23 @@
+-- The commands of the code, and their bytes.
+use Rattle.std.specs.Prelude.{ℕ, Ok, Err, Result}
+use Rattle.memory.specs.Scratchpads.{Command, write_scratchpad, read_scratchpad, copy_scratchpad, read_memory, unknown}
+use Rattle.memory.specs.declared.command.UnknownCommand.{UnknownCommand}
+use Rattle.memory.specs.declared.command.MemoryCommand.{MemoryCommand}
+use Rattle.memory.specs.declared.command.MemoryCommand.TheVariants.{WriteScratchpad, ReadScratchpad, CopyScratchpad, ReadMemory}
+
+abbrev pub byte_of : MemoryCommand → ℕ
+byte_of WriteScratchpad = 0x0F
+byte_of ReadScratchpad = 0xAA
+byte_of CopyScratchpad = 0x55
+byte_of ReadMemory = 0xF0
+
+abbrev pub meant : MemoryCommand → Command
+meant WriteScratchpad = write_scratchpad
+meant ReadScratchpad = read_scratchpad
+meant CopyScratchpad = copy_scratchpad
+meant ReadMemory = read_memory
+
+-- a byte's command, if it is one
+abbrev pub command_in : Result MemoryCommand UnknownCommand → Command
+command_in (Ok c) = meant c
+command_in (Err e) = unknown

@@ -1,0 +1,4 @@
+// Refusals and their numbers.
+#![tactic(auto)]
+
+pub mod refusal;

@@ -1,0 +1,41 @@
+ghost use Rattle.std.specs.Prelude.{◌≡◌};
+ghost use Rattle.samples.specs.declared.fault.SampleFault.TheVariants.{NoNumber, NoTag};
+
+use kind::fault::ImageFault;
+use number::registration::NumberFault;
+use std::error::Error;
+use std::fmt;
+
+// Why a sample is not made: a word that is no number, or an image that is not of the kind's length.
+#[derive(Clone, Copy, Debug, PartialEq, Eq)]
+pub enum SampleFault {
+    NoNumber,
+    NoTag,
+}
+
+impl fmt::Display for SampleFault {
+    fn fmt<W: fmt::Write>(&self, f: &mut fmt::Formatter<W>) -> fmt::Result {
+        f.write_str(match self {
+            SampleFault::NoNumber => "no number",
+            SampleFault::NoTag => "no tag",
+        })
+    }
+}
+
+impl Error for SampleFault {}
+
+impl From<NumberFault> for SampleFault {
+    ghost from_gives = { λ _ e. e ≡ NoNumber };
+
+    fn from(_e: NumberFault) -> SampleFault {
+        SampleFault::NoNumber
+    }
+}
+
+impl From<ImageFault> for SampleFault {
+    ghost from_gives = { λ _ e. e ≡ NoTag };
+
+    fn from(_e: ImageFault) -> SampleFault {
+        SampleFault::NoTag
+    }
+}

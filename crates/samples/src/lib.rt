@@ -1,0 +1,10 @@
+// Numbers, tags and lines that the programs play.
+#![tactic(auto)]
+
+pub mod fault;
+pub mod hex;
+pub mod many;
+pub mod numbers;
+pub mod plugs;
+pub mod refused;
+pub mod tags;

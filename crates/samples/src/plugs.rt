@@ -1,0 +1,40 @@
+ghost use Rattle.std.specs.Prelude.{◌≡◌, map, IfOk};
+ghost use Rattle.std.specs.List.{range_with_len};
+ghost use Rattle.samples.specs.Plugs.{plug_word, plug_chip, chip_of};
+
+use crate::fault::SampleFault;
+use crate::many::Many;
+use crate::tags::{Tag, tag_of};
+use plug::practice::PracticePlug;
+use std::array;
+use sums::sums::crc8;
+
+pub type Plug = Tag<PracticePlug>;
+
+// One plug more than a survey lists.
+pub const MANY: usize = 65;
+
+// The family code of these plugs.
+const FAMILY: u8 = 0x2D;
+
+fn word_of(serial: u8) -> u64
+    ensures { result ≡ plug_word serial }
+{
+    let sum = crc8(&[FAMILY, serial, 0, 0, 0, 0, 0]);
+    u64::from_le_bytes([FAMILY, serial, 0, 0, 0, 0, 0, sum])
+}
+
+// The plug with a serial number, without power; its bytes are all 00h.
+pub fn plug(serial: u8) -> Result<Plug, SampleFault>
+    ensures { IfOk result (λ t. chip_of t ≡ plug_chip serial) }
+{
+    tag_of(word_of(serial), &[0; 64])
+}
+
+// Plugs with consecutive serial numbers from 0 on.
+pub fn many_plugs() -> Result<Many<Plug, MANY>, SampleFault>
+    ensures { IfOk result (λ m. map chip_of m.lines ≡ map plug_chip (range_with_len 0 65)) }
+{
+    let plugs = array::try_from_fn(|i| plug((i % 256) as u8))?;
+    Ok(Many::new(plugs))
+}

@@ -1,0 +1,36 @@
+ghost use Rattle.std.specs.Prelude.{◌≡◌, ◌≢◌, true, false, ◌↔◌, IfOk, IsErrOf, EachIndex, length, slice_index};
+ghost use Rattle.memory.specs.Memories.{padded};
+ghost use Rattle.number.specs.Numbers.{checks};
+ghost use Rattle.chip.specs.Meaning.{model as chip_of};
+ghost use Rattle.scratchpad.specs.Meaning.{model};
+ghost use Rattle.tag.specs.Tags.{made_tag};
+
+use crate::fault::SampleFault;
+use crate::numbers::number_of;
+use kind::tags::Kind;
+use line::ends::OneTag;
+use scratchpad::pad::PadMemory;
+use std::array;
+use tag::making::make_tag;
+
+// A tag with the scratchpad protocol, which is a line of one chip.
+pub type Tag<K> = OneTag<PadMemory<K>>;
+
+// A tag of any kind from its number's word and its image, without power.
+pub fn tag_of<K: Kind + Drop>(word: u64, image: &[u8]) -> Result<Tag<K>, SampleFault>
+    ensures made { IfOk result (λ t. chip_of (λ p. padded (model K.rules K.bytes p)) t.chip ≡ made_tag K.rules word image.now) }
+    ensures no_number { IsErrOf result SampleFault.NoNumber ↔ (checks word ≡ false) }
+    ensures no_tag { IsErrOf result SampleFault.NoTag ↔ ((checks word ≡ true) × (length image.now ≢ K.rules.image)) }
+{
+    let number = number_of(word)?;
+    let mut place = None;
+    make_tag(&mut place, number, image)?;
+    place.ok_or(SampleFault::NoTag)
+}
+
+// An image of a sealed tag in which each byte is its own address.
+pub fn own_addresses() -> [u8; 136]
+    ensures { EachIndex result (λ k. slice_index result k ≡ k) }
+{
+    array::from_fn(|i| (i % 256) as u8)
+}

@@ -1,0 +1,39 @@
+use crate::asked::Asked;
+use crate::said::Said;
+use history::calls::{Answer, Call};
+use history::playing::play;
+use line::bus::Line;
+use rig::master::Rig;
+use std::{array, io};
+
+// A rig, and the runtime that prints what was asked of it and answered.
+#[derive(Drop)]
+pub struct Session<'a, L> {
+    pub rt: &'a HostRuntime,
+    rig: Rig<L>,
+}
+
+impl<'a, L: Line> Session<'a, L> {
+    pub fn new(rt: &'a HostRuntime, line: L) -> Session<'a, L> {
+        Session {
+            rt,
+            rig: Rig::new(line),
+        }
+    }
+
+    // Makes calls one after another, and says what each was and what was answered.
+    pub fn ask(&mut self, calls: &[Call]) -> io::Result<()> {
+        for call in calls {
+            let mut answers = [Answer::Done];
+            play(&mut self.rig, &[*call], &mut answers);
+            println!(self.rt; "{}: {}.", Asked(*call), Said(answers[0]))?;
+        }
+        Ok(())
+    }
+
+    // Forty slots, the lowest bit first, of which nothing is said.
+    pub fn send_forty(&mut self, word: u64) {
+        let calls: [Call; 40] = array::from_fn(|i| Call::Slot((word >> i) & 1 == 1));
+        play(&mut self.rig, &calls, &mut [Answer::Done; 40]);
+    }
+}
