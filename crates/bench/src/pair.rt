@@ -1,5 +1,6 @@
 use crate::session::{Session, VACANT};
 use line::ends::Joint;
+use memory::command::MemoryCommand;
 use number::registration::Number;
 use plug::practice::PracticePlug;
 use rig::master::Rig;
@@ -86,9 +87,11 @@ impl Pair<'_> {
     // A copy without its dwell: the plug is programming, and both jobs are refused until the dwell.
     fn busy(&mut self) -> anyhow::Result<()> {
         self.session.rig.power_up();
-        let row = [0x0F, 0x08, 0x00, 1, 2, 3, 4, 5, 6, 7, 8];
+        let write = MemoryCommand::WriteScratchpad.byte();
+        let copy = MemoryCommand::CopyScratchpad.byte();
+        let row = [write, 0x08, 0x00, 1, 2, 3, 4, 5, 6, 7, 8];
         self.session.select(self.plug, &row)?;
-        self.session.select(self.plug, &[0x55, 0x08, 0x00, 0x07])?;
+        self.session.select(self.plug, &[copy, 0x08, 0x00, 0x07])?;
         self.session
             .rt
             .println("Power-up; 0Fh and 55h: the plug programs row 0008h.")?;

@@ -1,4 +1,5 @@
 use crate::fault::PulseFault;
+use chip::command::NumberCommand;
 use line::bus::Line;
 use number::registration::Number;
 use reading::job::read_row;
@@ -12,10 +13,11 @@ use wire::bytes::{read_bytes, send_bytes};
 // What the caller's row holds before a reading.
 const BEFORE: [u8; 8] = [0xE0, 0xE1, 0xE2, 0xE3, 0xE4, 0xE5, 0xE6, 0xE7];
 
-// What a place holds before a survey; as a number it has a wrong check byte.
+// What a place holds before a survey, which is lent words; as a number it has a wrong check byte.
 pub const VACANT: u64 = 0xEEEE_EEEE_EEEE_EEEE;
 
 // A rig, and the runtime that prints what was asked of it and answered.
+// Not the session of the tasks, which plays lists of calls: this one makes each call itself.
 #[derive(Drop)]
 pub struct Session<'a, L> {
     pub rt: &'a HostRuntime,
@@ -23,7 +25,7 @@ pub struct Session<'a, L> {
 }
 
 impl<L: Line> Session<'_, L> {
-    // A reset that must find a tag.
+    // A reset that must find a tag. Made of pulses here, since the bench shows what the jobs do by theirs.
     pub fn begin(&mut self) -> Result<(), PulseFault> {
         if self.rig.reset()? {
             Ok(())
@@ -35,7 +37,7 @@ impl<L: Line> Session<'_, L> {
     // A reset, 55h with the number, and the bytes of a command.
     pub fn select(&mut self, number: Number, command: &[u8]) -> Result<(), PulseFault> {
         self.begin()?;
-        self.send(&[0x55])?;
+        self.send(&[NumberCommand::MatchNumber.byte()])?;
         self.send(&number.bytes())?;
         self.send(command)
     }

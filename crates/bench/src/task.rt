@@ -1,5 +1,7 @@
 use crate::session::Session;
 use anyhow::{Context, bail, ensure};
+use chip::command::NumberCommand;
+use memory::command::MemoryCommand;
 use number::registration::Number;
 use rig::master::Rig;
 use samples::hex::Hex;
@@ -91,7 +93,7 @@ impl Task<'_> {
 
     fn identify(&mut self) -> anyhow::Result<()> {
         self.session.begin()?;
-        self.session.send(&[0x33])?;
+        self.session.send(&[NumberCommand::ReadNumber.byte()])?;
         let bytes = self.session.read::<8>()?;
         number_of(u64::from_le_bytes(bytes)).context("the number was garbled")?;
         println!(self.session.rt; "33h: the tag says its number {}.", Hex(&bytes))?;
@@ -101,7 +103,8 @@ impl Task<'_> {
     fn write_scratchpad(&mut self) -> anyhow::Result<()> {
         let [low, high] = ROW.to_le_bytes();
         let [a, b, c, d, e, f, g, h] = CLUTCH;
-        let sent = [0x0F, low, high, a, b, c, d, e, f, g, h];
+        let write = MemoryCommand::WriteScratchpad.byte();
+        let sent = [write, low, high, a, b, c, d, e, f, g, h];
         self.session.select(self.number, &sent)?;
         let sum = u16::from_le_bytes(self.session.read::<2>()?);
         ensure!(sum == !crc16(&sent), "wrong check sum after 0Fh");
@@ -113,7 +116,8 @@ impl Task<'_> {
     }
 
     fn read_scratchpad(&mut self) -> anyhow::Result<()> {
-        self.session.select(self.number, &[0xAA])?;
+        self.session
+            .select(self.number, &[MemoryCommand::ReadScratchpad.byte()])?;
         let got = self.session.read::<13>()?;
         println!(self.session.rt;
             "AAh: address {}, status {:02X}h, scratchpad {}, inverted CRC-16 {}.",
@@ -127,7 +131,8 @@ impl Task<'_> {
 
     fn copy_scratchpad(&mut self) -> anyhow::Result<()> {
         let [low, high] = ROW.to_le_bytes();
-        self.session.select(self.number, &[0x55, low, high, 0x07])?;
+        let copy = MemoryCommand::CopyScratchpad.byte();
+        self.session.select(self.number, &[copy, low, high, 0x07])?;
         let Err(fault) = self.session.rig.reset() else {
             bail!("a programming tag let a reset pass");
         };
@@ -143,7 +148,8 @@ impl Task<'_> {
 
     fn read_memory(&mut self) -> anyhow::Result<[u8; 8]> {
         let [low, high] = ROW.to_le_bytes();
-        self.session.select(self.number, &[0xF0, low, high])?;
+        let read = MemoryCommand::ReadMemory.byte();
+        self.session.select(self.number, &[read, low, high])?;
         let found = self.session.read::<8>()?;
         println!(self.session.rt; "F0h: row {ROW:04X}h reads {}.", Hex(&found))?;
         self.session.begin()?;

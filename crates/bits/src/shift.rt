@@ -76,6 +76,7 @@ impl Model for Outgoing {
     ghost inverse_ok = { λ o h. kept (λ x n. record { word = x; left = n }) o.left o.word h.1 };
 }
 
+// A body for each width: each makes another list of bits.
 impl From<u8> for Outgoing {
     ghost from_gives = { λ byte o. o ≡ bits_of 8 byte };
 

@@ -5,6 +5,7 @@ ghost use Rattle.chip.specs.Commands.{byte_of, command_in};
 use memory::command::UnknownCommand;
 
 // The commands on a number, each with its byte.
+// Not one type with the commands of the memory phase: the same byte is another command there.
 #[derive(Clone, Copy, Debug, PartialEq, Eq)]
 pub enum NumberCommand {
     ReadNumber = 0x33,

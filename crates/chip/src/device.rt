@@ -106,7 +106,7 @@ impl<P: Protocol> Chip<P> {
         self.live = None;
     }
 
-    // A step of the chip's line.
+    // A step of the chip's line. A step is data, which every line hands on: one arm for each.
     pub fn step(&mut self, step: Step)
         ensures { model P.memory self.new ≡ effect step (model P.memory self.old) }
     {
@@ -155,7 +155,7 @@ impl<P: Protocol> Chip<P> {
         }
     }
 
-    // On to a phase.
+    // On to a phase. RC and the phase are two arguments: `go(false, RomPhase::Idle)` is plainer than with a `Live` written out.
     fn go(&mut self, rc: bool, phase: RomPhase)
         ensures chip { model P.memory self.new ≡ at protocols (model P.memory self.old) (on rc (phase_of phase)) }
         ensures memory { self.new.memory ≡ self.old.memory }
@@ -203,7 +203,7 @@ impl<P: Protocol> Chip<P> {
         }
     }
 
-    // A command of the ROM phase.
+    // A command of the ROM phase. It is data from the line: one arm for each.
     fn obey(&mut self, rc: bool, command: NumberCommand)
         ensures { model P.memory self.new ≡ obey protocols (meant command) rc (model P.memory self.old) }
     {

@@ -7,7 +7,7 @@ use rig::master::Fuse;
 use survey::fault::SurveyFault;
 use survey::listing::MOST_PLACES;
 
-// What a rig can be asked.
+// What a rig can be asked; number and row apart, as the jobs take them.
 #[derive(Clone, Copy)]
 pub enum Call {
     Reset,

@@ -69,6 +69,7 @@ pub fn make_call<L: Line>(rig: &mut Rig<L>, call: Call) -> Answer
 }
 
 // Plays a list of calls, as many as there are places for answers, and says how many; the places are lent, since nothing is allocated.
+// Not one function with the playing of letters: with what is done at each as a closure its clauses would be no plainer.
 pub fn play<L: Line>(rig: &mut Rig<L>, calls: &[Call], answers: &mut [Answer]) -> usize
     ensures count { result ≡ min (length calls.now) (length answers.old) }
     ensures told { (rig_of L.chips rig.new, map reply_of (take result answers.new)) ≡ serve_all (map request_of (take result calls.now)) (rig_of L.chips rig.old) }

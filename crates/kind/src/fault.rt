@@ -11,6 +11,7 @@ pub enum ImageFault {
 }
 
 impl ImageFault {
+    // A method, as of every fault: `fault.refusal()` says what is asked of it, and `Refusal::from(fault)` would not.
     pub fn refusal(&self) -> Refusal
         ensures { number_of result ≡ refusal self.now }
     {

@@ -62,7 +62,8 @@ fn order_steps<L: Line>(
     conclude(rig, target, new)
 }
 
-// Orders eight bytes to a row. Held: whether the tag has programmed, and the steps made.
+// Orders eight bytes to a row. Held: whether the tag has programmed, and the steps made; a pair, as its rule says.
+// Number and row apart, as a master asks them; a target inside.
 pub fn order<L: Line>(
     rig: &mut Rig<L>,
     number: Number,

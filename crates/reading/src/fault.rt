@@ -1,6 +1,6 @@
 ghost use Rattle.std.specs.Prelude.{◌≡◌, ℕ, List, [], Err};
-ghost use Rattle.refusals.specs.Refusals.{number_of as numbered};
-ghost use Rattle.wire.specs.Jobs.{Report, refused_as};
+ghost use Rattle.wire.specs.Exchanges.{told_as};
+ghost use Rattle.wire.specs.Jobs.{Report};
 ghost use Rattle.reading.specs.Meaning.{read_report};
 ghost use Rattle.reading.specs.declared.fault.ReadFault.TheVariants.{Exchange};
 
@@ -14,11 +14,11 @@ pub enum ReadFault {
     Exchange(ExchangeFault),
 }
 
-// No trait for the faults of the three jobs: no code goes over faults of any job, and each tells its own report.
+// No trait for the faults of the three jobs: each tells a report of another type.
 impl ReadFault {
     // The refusal, the exchange and the steps made.
     pub fn refused(&self) -> Refused
-        ensures { ◌≡◌ {A = Report (List ℕ)} (refused_as (numbered result.refusal) result.exchange result.steps) (read_report (Err self.now) []) }
+        ensures { ◌≡◌ {A = Report (List ℕ)} (told_as result) (read_report (Err self.now) []) }
     {
         match self {
             ReadFault::BadRow => Refused::at_once(Refusal::BadRow),

@@ -23,6 +23,7 @@ fn read_steps<L: Line>(rig: &mut Rig<L>, target: Target) -> Result<([u8; ROW], u
     Ok((found, rig.steps()))
 }
 
+// Number and row apart, as a master asks them; a target inside.
 // Reads a row into the caller's, which stays as it is unless the reading succeeds; answers the steps made.
 pub fn read_row<L: Line>(
     rig: &mut Rig<L>,

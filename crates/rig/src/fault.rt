@@ -10,7 +10,7 @@ pub enum RigFault {
     LineBusy,
 }
 
-// A method as of every fault: `From` for `Refusal` would read no plainer at a call.
+// A method, as of every fault: `fault.refusal()` says what is asked of it, and `Refusal::from(fault)` would not.
 impl RigFault {
     pub fn refusal(&self) -> Refusal
         ensures { number_of result ≡ refusal self.now }

@@ -93,16 +93,16 @@ impl<L: Line> Rig<L> {
         }
     }
 
-    // A step: the line is driven, unless the step becomes a cut; that is answered as told.
-    fn step<F: FnOnce(&mut L) -> bool>(&mut self, deaf: bool, drive: F) -> bool
+    // A step: the line is driven and answers; or the step becomes a cut, which is answered by `if_cut`.
+    fn step<F: FnOnce(&mut L) -> bool>(&mut self, if_cut: bool, drive: F) -> bool
         requires { F.IsAlwaysCallable drive }
         ensures fuse { self.new.fuse ≡ lowered self.old.fuse }
         ensures steps { self.new.steps ≡ counted self.old.steps }
-        ensures cut { blows self.old.fuse ≡ true → (result ≡ deaf) × (L.chips self.new.line ≡ cut_by self.old.fuse (L.chips self.old.line)) }
+        ensures cut { blows self.old.fuse ≡ true → (result ≡ if_cut) × (L.chips self.new.line ≡ cut_by self.old.fuse (L.chips self.old.line)) }
         ensures driven { blows self.old.fuse ≡ false → FnOnceReturnsAtMut F.FnOnce drive self.old.line result self.new.line }
     {
         if self.burn() {
-            deaf
+            if_cut
         } else {
             drive(&mut self.line)
         }

@@ -28,7 +28,7 @@ impl From<NumberFault> for SampleFault {
     ghost from_gives = { λ _ e. e ≡ NoNumber };
 
     fn from(_e: NumberFault) -> SampleFault {
-        SampleFault::NoNumber
+        Self::NoNumber
     }
 }
 
@@ -36,6 +36,6 @@ impl From<ImageFault> for SampleFault {
     ghost from_gives = { λ _ e. e ≡ NoTag };
 
     fn from(_e: ImageFault) -> SampleFault {
-        SampleFault::NoTag
+        Self::NoTag
     }
 }

@@ -35,6 +35,7 @@ pub fn plug(serial: u8) -> Result<Plug, SampleFault>
 pub fn many_plugs() -> Result<Many<Plug, MANY>, SampleFault>
     ensures { IfOk result (λ m. map chip_of m.lines ≡ map plug_chip (range_with_len 0 65)) }
 {
+    // The remainder shows that an index is a byte.
     let plugs = array::try_from_fn(|i| plug((i % 256) as u8))?;
     Ok(Many::new(plugs))
 }

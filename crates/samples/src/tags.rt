@@ -32,5 +32,6 @@ pub fn tag_of<K: Kind + Drop>(word: u64, image: &[u8]) -> Result<Tag<K>, SampleF
 pub fn own_addresses() -> [u8; 136]
     ensures { EachIndex result (λ k. slice_index result k ≡ k) }
 {
+    // The remainder shows that an index is a byte.
     array::from_fn(|i| (i % 256) as u8)
 }

@@ -154,7 +154,7 @@ impl<K: Kind> PadMemory<K> {
             && self.kind.copy(self.regs.row())
     }
 
-    // A command of the memory phase.
+    // A command of the memory phase. It is data from the line: one arm for each.
     fn obey(&mut self, command: MemoryCommand)
         ensures { model K.rules K.bytes self.new ≡ working (model K.rules K.bytes self.old) (obey K.rules (K.bytes self.old.kind) (meant command) (regs_of self.old.regs)) }
     {

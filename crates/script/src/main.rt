@@ -29,7 +29,7 @@ impl Session<'_> {
         let mut output = [0u8; 4096];
         let mut source = self.rt.stdin();
         let mut sink = self.rt.stdout();
-        // Counted, since where the input ends is not known.
+        // Counted, since every loop must be seen to end.
         for _ in 0..u64::MAX {
             let arrived = source.read(&mut input)?;
             if arrived == 0 {

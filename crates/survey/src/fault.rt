@@ -1,6 +1,6 @@
 ghost use Rattle.std.specs.Prelude.{◌≡◌, ℕ, [], Err};
-ghost use Rattle.refusals.specs.Refusals.{number_of as numbered};
-ghost use Rattle.wire.specs.Jobs.{Report, refused_as};
+ghost use Rattle.wire.specs.Exchanges.{told_as};
+ghost use Rattle.wire.specs.Jobs.{Report};
 ghost use Rattle.survey.specs.Listing.{survey_answer};
 ghost use Rattle.survey.specs.declared.fault.SurveyFault.TheVariants.{Exchange};
 
@@ -15,11 +15,11 @@ pub enum SurveyFault {
     Exchange(ExchangeFault),
 }
 
-// No trait shared with the other jobs' faults: a survey counts passes and tells what lies in the places.
+// No trait shared with the other jobs' faults: each tells a report of another type.
 impl SurveyFault {
     // The refusal, the pass and the steps made.
     pub fn refused(&self) -> Refused
-        ensures { ◌≡◌ {A = Report ℕ} (refused_as (numbered result.refusal) result.exchange result.steps) (survey_answer (Err self.now) []).0 }
+        ensures { ◌≡◌ {A = Report ℕ} (told_as result) (survey_answer (Err self.now) []).0 }
     {
         match self {
             SurveyFault::NoPlace => Refused::at_once(Refusal::NoPlace),

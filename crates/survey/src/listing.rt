@@ -15,6 +15,7 @@ use rig::master::Rig;
 pub const MOST_PLACES: usize = 64;
 
 // Passes until none is open or the room is used up; each pass fills one place.
+// The room beside all places: the clause tells that those behind it stay.
 fn list_numbers<L: Line>(
     rig: &mut Rig<L>,
     places: &mut [u64],
@@ -24,7 +25,7 @@ fn list_numbers<L: Line>(
     ensures { Surveyed room (counting L.chips rig.old) (counting L.chips rig.new) places.old places.new result }
 {
     let mut way = 0;
-    // By number and not by place, since the number of a pass is told too.
+    // By number: `enumerate` would count in `usize` what is told as a byte.
     for i in 0..room {
         let pass = make_pass(rig, way, i + 1)?;
         places[i as usize] = pass.number;

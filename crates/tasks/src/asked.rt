@@ -5,7 +5,7 @@ use rig::master::Fuse;
 use samples::hex::Hex;
 use std::fmt;
 
-// What was asked.
+// What was asked. A call is data: one arm for each.
 #[derive(Clone, Copy)]
 pub struct Asked(pub Call);
 

@@ -22,7 +22,7 @@ impl fmt::Display for Made {
     }
 }
 
-// What was answered.
+// What was answered. An answer is data: one arm for each.
 #[derive(Clone, Copy)]
 pub struct Said(pub Answer);
 

@@ -1,7 +1,7 @@
 use std::io::{BufRead, BufReader};
 use sums::sums::{crc8, crc16};
 
-// The value of a hexadecimal digit. `char::to_digit(16)` would take the lower-case letters too.
+// The value of a hexadecimal digit. No plainer by `char::to_digit(16)`: it takes lower-case letters too, which would be tested for beside it.
 pub fn digit(letter: u8) -> Option<u8> {
     match letter {
         b'0'..=b'9' => Some(letter - b'0'),

@@ -6,6 +6,8 @@ use Rattle.rig.specs.Rigs.{resets, dwells, pulse, counted}
 use Rattle.rig.specs.Meaning.{Counting, beat, refusal}
 use Rattle.wire.specs.Jobs.{Job, step, send_bytes, read_bytes, Report, refused_as}
 use Rattle.wire.specs.Wires.{does, sends, reads, onward, keep}
+use Rattle.refusals.specs.Refusals.{number_of as numbered}
+use Rattle.wire.specs.declared.fault.Refused.{Refused}
 use Rattle.wire.specs.declared.fault.Why.{Why}
 use Rattle.wire.specs.declared.fault.Why.TheVariants.{NoPresence, Garbled}
 use Rattle.wire.specs.declared.fault.ExchangeFault.{ExchangeFault}
@@ -20,6 +22,10 @@ number_of Garbled = 6
 abbrev pub fault_report : {A : Type 0} → ExchangeFault → Report A
 fault_report (Rig f) = refused_as (refusal f) 0 0
 fault_report (Failed why e s) = refused_as (number_of why) e s
+
+-- what a refused job tells, with the number of its refusal
+abbrev pub told_as : {A : Type 0} → Refused → Report A
+told_as r = refused_as (numbered r.refusal) r.exchange r.steps
 
 -- a reset that must find a chip, in an exchange of a job
 abbrev pub present : ℕ → Counting → Counting × Result (Unit {0}) ExchangeFault

@@ -1,8 +1,8 @@
 ghost use Rattle.std.specs.Prelude.{◌≡◌};
 ghost use Rattle.rig.specs.Meaning.{counting};
 ghost use Rattle.refusals.specs.Refusals.{number_of as numbered};
-ghost use Rattle.wire.specs.Jobs.{Report, refused_as};
-ghost use Rattle.wire.specs.Exchanges.{number_of, fault_report};
+ghost use Rattle.wire.specs.Jobs.{Report};
+ghost use Rattle.wire.specs.Exchanges.{number_of, fault_report, told_as};
 ghost use Rattle.wire.specs.declared.fault.ExchangeFault.TheVariants.{Rig, Failed};
 
 use line::bus::Line;
@@ -24,7 +24,8 @@ pub enum ExchangeFault {
     Failed { why: Why, exchange: u8, steps: u32 },
 }
 
-// What a refused job tells: the refusal, the exchange or pass (0 before any step), and the steps made.
+// What a refused job tells: the refusal, the exchange or pass, and the steps made.
+// Exchange 0 is before any step, a number that the rules give and programs print.
 #[derive(Clone, Copy, Debug, PartialEq, Eq)]
 pub struct Refused {
     pub refusal: Refusal,
@@ -45,7 +46,7 @@ impl Refused {
     }
 }
 
-// A method as of every fault: `From` for `Refusal` would read no plainer at a call.
+// A method, as of every fault: `fault.refusal()` says what is asked of it, and `Refusal::from(fault)` would not.
 impl Why {
     pub fn refusal(&self) -> Refusal
         ensures { numbered result ≡ number_of self.now }
@@ -70,7 +71,7 @@ impl ExchangeFault {
     }
 
     pub fn refused(&self) -> Refused
-        ensures { ◌≡◌ {A = Report (Unit {0})} (refused_as (numbered result.refusal) result.exchange result.steps) (fault_report self.now) }
+        ensures { ◌≡◌ {A = Report (Unit {0})} (told_as result) (fault_report self.now) }
     {
         match self {
             ExchangeFault::Rig(fault) => Refused::at_once(fault.refusal()),

@@ -13,6 +13,7 @@ impl<const W: usize> TryFrom<&[u8]> for Image<W> {
     ghost try_from_gives = { λ bytes image. image_of image ≡ imaging W bytes.now };
 
     fn try_from(bytes: &[u8]) -> Result<Image<W>, ImageFault> {
+        // The library's own error says nothing more than this one.
         match <[u8; W]>::try_from(bytes) {
             Ok(bytes) => Ok(Image { bytes }),
             Err(_) => Err(ImageFault::WrongLength),
@@ -34,7 +35,7 @@ impl<const W: usize> Image<W> {
         ensures { self.new.bytes ≡ program W row new.now mask self.old.bytes }
     {
         let first = row as usize;
-        // By index: the same one counts in the row, the mask and the image.
+        // By index: the same one counts in the row, the mask and the image, and the mask's byte by a shift, as its rule says.
         for i in 0..ROW {
             let at = first + i;
             if at < W {

@@ -55,6 +55,7 @@ impl Number {
 }
 
 impl NumberFault {
+    // A method, as of every fault: `fault.refusal()` says what is asked of it, and `Refusal::from(fault)` would not.
     pub fn refusal(&self) -> Refusal
         ensures { number_of result ≡ refusal self.now }
     {
