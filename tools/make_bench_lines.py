@@ -1,175 +1,311 @@
 """Prints what the bench program must write, from the plain model alone.
 
-First one whole task on a sealed tag by pulses; then two jobs of a master, the
-reading of a row and the search for all numbers, run on the model's rig.  Bytes
-are in hex, in the sequence of their travel.
+The verified order of a row is written here a second time, beside the other
+jobs of a master, and run on the model's rig.  Each call prints one line: what
+was asked and what was answered.  Bytes are in hex, in the sequence of their
+travel.
 
     python3 tools/make_bench_lines.py > crates/bench/stdout
 """
 
+from driven_tag import driven_lines
 from master_jobs import (
-    JobRefused, MOST_PASSES, read, reading, search, spaced)
+    GARBLED, JobRefused, MOST_PASSES, find_row, open_exchange,
+    presence_or_refusal, read, reading, require_a_row, search, send, spaced)
 from onewire_model import (
-    Chip, FULL_MASK, LINE_BUSY, PracticePlug, Refusal, RegistrationNumber,
-    Rig, SealedTag, bits_of_bytes, crc8, crc16, joint, one_tag, open_clip,
+    Chip, PracticePlug, Refusal, RegistrationNumber, Rig, ROW_LENGTH,
+    SealedTag, crc8, crc16, inverted_crc16_bytes, joint, one_tag, open_clip,
     refusal_of)
 
-NUMBER = bytes.fromhex("2D47360000000161")
-WRONG_NUMBER = bytes.fromhex("2D47360000000162")
-DATA = bytes.fromhex("125A03E80BB80064")
-TARGET = bytes([0x40, 0x00])          # low byte first
-IMAGE = b"\xFF" * 136
-
 
 # ---------------------------------------------------------------------------
-# One whole task on a sealed tag
+# The verified order
+
+DIFFERS = 7                       # an order's own refusals, by their numbers
+NOT_HELD = 8
+
+STEPS_OF_A_PASS = 201
+
+WHOLE_ROW = 0x07                  # the status of a scratchpad that took a row
+PROGRAMMED = 0xAA                 # what a tag says after it has programmed
 
 
-def write(rig, data):
-    """Send bytes; nobody may pull against them."""
-    for bit in bits_of_bytes(data):
-        assert rig.slot(bit) == bit
+def first_difference(asked, found):
+    """The first index at which two rows differ, or None."""
+    return next((i for i in range(ROW_LENGTH) if asked[i] != found[i]), None)
 
 
-def begin(rig):
-    assert rig.reset() is True
+def load_row(rig, number, target, new):
+    """Exchange 1: 0Fh, and the sum that the tag answers."""
+    sent = b"\x0F" + target + new
+    open_exchange(rig, 1, number, sent)
+    if read(rig, 2) != inverted_crc16_bytes(sent):
+        raise JobRefused(GARBLED, 1, rig.steps)
 
 
-def select(rig, number=NUMBER):
-    begin(rig)
-    write(rig, b"\x55" + number)
+def check_scratchpad(rig, number, target, new):
+    """Exchange 2: AAh; address, status and sum first, then the data."""
+    open_exchange(rig, 2, number, b"\xAA")
+    told = read(rig, 13)
+    report, check = told[:11], told[11:]
+    if report[:3] != target + bytes([WHOLE_ROW]):
+        raise JobRefused(GARBLED, 2, rig.steps)
+    if check != inverted_crc16_bytes(b"\xAA" + report):
+        raise JobRefused(GARBLED, 2, rig.steps)
+    index = first_difference(new, report[3:])
+    if index is not None:
+        raise JobRefused(DIFFERS, 2, rig.steps, index)
 
 
-def read_number(rig):
-    begin(rig)
-    write(rig, b"\x33")
-    return read(rig, 8)
-
-
-def write_scratchpad(rig):
-    """Answers the 16-bit value whose low byte came first."""
-    select(rig)
-    sent = b"\x0F" + TARGET + DATA
-    write(rig, sent)
-    value = int.from_bytes(read(rig, 2), "little")
-    assert value == crc16(sent) ^ 0xFFFF
-    return value
-
-
-def read_scratchpad(rig):
-    select(rig)
-    write(rig, b"\xAA")
-    return read(rig, 13)
-
-
-def copy_scratchpad(rig):
-    """Answers the refusal of a reset before the dwell."""
-    select(rig)
-    write(rig, b"\x55" + TARGET + b"\x07")
-    steps = rig.steps
-    refusal = refusal_of(rig.reset)
-    assert refusal == LINE_BUSY and rig.steps == steps
-    return refusal
-
-
-def read_target(rig):
-    select(rig)
-    write(rig, b"\xF0" + TARGET)
-    return read(rig, 8)
-
-
-def making_lines():
-    yield "A gearbox tag, driven by pulses alone."
-    refusal = refusal_of(RegistrationNumber, WRONG_NUMBER)
-    yield (f"Number {spaced(WRONG_NUMBER)}: refused with {refusal},"
-           " wrong check byte.")
-    number = RegistrationNumber(NUMBER)
-    yield f"Number {spaced(NUMBER)}: made, family {number.bytes[0]:02X}h."
-    refusal = refusal_of(SealedTag, IMAGE[:135])
-    yield f"Sealed tag from an image of 135 bytes: refused with {refusal}."
-    SealedTag(IMAGE)
-    yield "Sealed tag from an image of 136 bytes: made, without power."
-
-
-def task_lines():
-    yield from making_lines()
-    rig = Rig(one_tag(Chip(RegistrationNumber(NUMBER), SealedTag(IMAGE))))
-    assert rig.reset() is False
-    yield "Reset: no presence, the tag has no power."
-    rig.power_up()
-    rig.zero_counters()
-    yield "Power-up."
-    yield f"33h: the tag says its number {spaced(read_number(rig))}."
-    yield (f"0Fh: {spaced(DATA)} sent for row 0040h,"
-           f" inverted CRC-16 {write_scratchpad(rig):04X}h is right.")
-    report = read_scratchpad(rig)
-    yield (f"AAh: address {spaced(report[:2])}, status {report[2]:02X}h,"
-           f" scratchpad {spaced(report[3:11])},"
-           f" inverted CRC-16 {spaced(report[11:])}.")
-    yield (f"55h: copy begun; a reset now is refused with"
-           f" {copy_scratchpad(rig)}.")
+def copy_scratchpad(rig, number, target):
+    """Exchange 3: 55h, a dwell, and the byte that tells of programming."""
+    open_exchange(rig, 3, number, b"\x55" + target + bytes([WHOLE_ROW]))
     rig.dwell()
-    yield f"Dwell: the tag says {spaced(read(rig, 1))}h."
-    yield f"F0h: row 0040h reads {spaced(read_target(rig))}."
-    begin(rig)
-    yield (f"Done: row 0040h holds the clutch values, in {rig.steps} steps:"
-           f" {rig.resets} resets, {rig.dwells} dwell, {rig.slots} slots.")
+    return read(rig, 1) == bytes([PROGRAMMED])
+
+
+def order(rig, number, row, new):
+    """Write a row and read it back; answers whether the tag programmed."""
+    require_a_row(row)
+    rig.zero_counters()
+    target = row.to_bytes(2, "little")
+    load_row(rig, number, target, new)
+    check_scratchpad(rig, number, target, new)
+    programmed = copy_scratchpad(rig, number, target)
+    found = find_row(rig, 4, number, row)
+    presence_or_refusal(rig, 5)
+    index = first_difference(new, found)
+    if index is not None:
+        raise JobRefused(NOT_HELD, 5, rig.steps, index)
+    return programmed
 
 
 # ---------------------------------------------------------------------------
-# The two jobs
+# Calls, and what is said of each
+
+
+def mask_words(mask):
+    """Byte i of a mask is for byte i of a row."""
+    return spaced(mask.to_bytes(8, "little"))
 
 
 def refusal_words(refused, unit):
     """A pulse that is refused at the first step of a job makes no step."""
-    if isinstance(refused, JobRefused):
-        exchange, steps = refused.exchange, refused.steps
-    else:
-        exchange, steps = 0, 0
-    return f"refused with {refused.number}, {unit} {exchange}, steps {steps}"
+    if not isinstance(refused, JobRefused):
+        refused = JobRefused(refused.number, 0, 0)
+    words = (f"refused with {refused.number}, {unit} {refused.exchange},"
+             f" steps {refused.steps}")
+    if refused.index is None:
+        return words
+    return f"{words}; first difference at index {refused.index}"
+
+
+class Reset:
+    asked = "Reset"
+
+    def answer(self, rig):
+        try:
+            return "presence" if rig.reset() else "no presence"
+        except Refusal as refused:
+            return f"refused with {refused.number}"
+
+
+class Slot:
+    def __init__(self, bit):
+        self.bit = bit
+        self.asked = f"Slot with {bit}"
+
+    def answer(self, rig):
+        try:
+            return str(rig.slot(self.bit))
+        except Refusal as refused:
+            return f"refused with {refused.number}"
+
+
+class Dwell:
+    asked = "Dwell"
+
+    def answer(self, rig):
+        rig.dwell()
+        return "done"
+
+
+class Cut:
+    def __init__(self, mask):
+        self.mask = mask
+        self.asked = f"Cut with mask {mask_words(mask)}"
+
+    def answer(self, rig):
+        rig.cut(self.mask)
+        return "done"
+
+
+class PowerUp:
+    asked = "Power-up"
+
+    def answer(self, rig):
+        rig.power_up()
+        return "done"
+
+
+class Fuse:
+    def __init__(self, count, mask):
+        self.count = count
+        self.mask = mask
+        self.asked = f"Fuse of {count} steps with mask {mask_words(mask)}"
+
+    def answer(self, rig):
+        rig.set_fuse(self.count, self.mask)
+        return "done"
+
+
+class Search:
+    def __init__(self, room):
+        self.room = room
+        self.asked = f"Search with a list of {room}"
+
+    def answer(self, rig):
+        found = []
+        try:
+            search(rig, self.room, found)
+            assert rig.steps == STEPS_OF_A_PASS * len(found)
+            words = f"steps {rig.steps}"
+        except (JobRefused, Refusal) as refused:
+            words = refusal_words(refused, "pass")
+        for number in found:
+            RegistrationNumber(number)
+        return ", ".join([f"{words}; found {len(found)}"]
+                         + [spaced(number) for number in found])
+
+
+class Reading:
+    def __init__(self, number, row):
+        self.number = number
+        self.row = row
+        self.asked = f"Reading of row {row:04X}h of {spaced(number)}"
+
+    def answer(self, rig):
+        try:
+            found = reading(rig, self.number, self.row)
+        except (JobRefused, Refusal) as refused:
+            return refusal_words(refused, "exchange")
+        return f"{spaced(found)}, steps {rig.steps}"
+
+
+class Order:
+    def __init__(self, number, row, new):
+        self.number = number
+        self.row = row
+        self.new = new
+        self.asked = (f"Order of {spaced(new)} to row {row:04X}h"
+                      f" of {spaced(number)}")
+
+    def answer(self, rig):
+        try:
+            programmed = order(rig, self.number, self.row, self.new)
+        except (JobRefused, Refusal) as refused:
+            return refusal_words(refused, "exchange")
+        held = "held and programmed" if programmed else "held, not programmed"
+        return f"steps {rig.steps}; {held}"
+
+
+def told(rig, calls):
+    """One line for each call, on a rig that finds the work of those before."""
+    for call in calls:
+        yield f"{call.asked}: {call.answer(rig)}."
 
 
 # ---------------------------------------------------------------------------
-# What is said of a job
+# One whole task
 
-BEFORE = bytes(range(0xE0, 0xE8))
+GEARBOX = bytes.fromhex("2D47360000000161")
+WRONG_GEARBOX = bytes.fromhex("2D47360000000162")
+CLUTCH = bytes.fromhex("125A03E80BB80064")
+CLUTCH_ROW = 0x0040
 
-
-def reading_lines(rig, number, row):
-    held = BEFORE
-    asked = f"Reading of row {row:04X}h of {spaced(number)}"
-    try:
-        held = reading(rig, number, row)
-        yield f"{asked}: {spaced(held)}, steps {rig.steps}."
-    except (JobRefused, Refusal) as refused:
-        yield (f"{asked}: {refusal_words(refused, 'exchange')};"
-               f" the row still holds {spaced(held)}.")
+PLUG = bytes(8)
+SEALED = bytes([0, 0, 0, 0, 0, 0, 0x01, 0x5E])
+WRONG_SEALED = bytes([0, 0, 0, 0, 0, 0, 0x01, 0x5F])
 
 
-def search_line(rig, room, found):
-    asked = f"Search with room for {room}"
-    try:
-        search(rig, room, found)
-        answer = f"{len(found)} found, steps {rig.steps}"
-    except (JobRefused, Refusal) as refused:
-        answer = refusal_words(refused, "pass")
-    for number in found:
-        RegistrationNumber(number)
-    return f"{asked}: {answer}; numbers held: {len(found)}."
+def made_or_refused(refusal):
+    return "made" if refusal is None else f"refused with {refusal}"
 
 
-def search_lines(rig, room):
-    found = []
-    yield search_line(rig, room, found)
-    for number in found:
-        yield f"  Number {spaced(number)}."
+def number_line(number):
+    refusal = refusal_of(RegistrationNumber, number)
+    return f"Number {spaced(number)}: {made_or_refused(refusal)}."
+
+
+def image_line(length):
+    refusal = refusal_of(SealedTag, b"\xFF" * length)
+    return (f"Sealed tag from an image of {length} bytes:"
+            f" {made_or_refused(refusal)}.")
+
+
+def sealed_rig(number, image):
+    return Rig(one_tag(Chip(RegistrationNumber(number), SealedTag(image))))
+
+
+def task_lines():
+    yield "Numbers, and the image of a sealed tag."
+    for number in (WRONG_GEARBOX, GEARBOX, WRONG_SEALED, SEALED):
+        yield number_line(number)
+    yield image_line(135)
+    yield image_line(136)
+    yield ("The gearbox tag gets power and is found; its clutch values are"
+           " ordered and read.")
+    rig = sealed_rig(GEARBOX, b"\xFF" * 136)
+    yield from told(rig, [
+        Reset(), PowerUp(), Reset(), Search(8),
+        Order(GEARBOX, CLUTCH_ROW, CLUTCH), Reading(GEARBOX, CLUTCH_ROW)])
+
+
+# ---------------------------------------------------------------------------
+# Edge runs of the order
+#
+# The tag has F0h everywhere but for its control bytes: page 0 is
+# write-protected, page 1 is in EPROM mode, pages 2 and 3 are free.
+
+OLD = b"\xF0" * ROW_LENGTH
+NEW = bytes(range(1, 9))
+
+
+def edge_rig(lock):
+    image = bytearray(b"\xF0" * 136)
+    image[0x80:0x85] = bytes([0x55, 0xAA, 0x00, 0x00, lock])
+    return sealed_rig(SEALED, image)
+
+
+def fuse_calls(count, mask):
+    """An order to a free row that loses power, and what the row holds then."""
+    return [Fuse(count, mask), Order(SEALED, 0x40, NEW), PowerUp(),
+            Reading(SEALED, 0x40)]
+
+
+def edge_lines():
+    rig = edge_rig(0x00)
+    yield ("An order loses power at its dwell, with two masks, and at its"
+           " closing reset.")
+    yield from told(rig, [PowerUp()] + fuse_calls(467, 0)
+                    + fuse_calls(467, 0xFFFF_FFFF)
+                    + fuse_calls(637, 0))
+    yield ("Page 0 is write-protected, page 1 in EPROM mode, and row 0088h"
+           " not programmable.")
+    yield from told(rig, [
+        Order(SEALED, 0x20, b"\x0F" * 8), Order(SEALED, 0x20, b"\x70" * 8),
+        Order(SEALED, 0x00, OLD), Order(SEALED, 0x00, NEW),
+        Order(SEALED, 0x88, b"\xFF" * 8), Order(SEALED, 0x88, bytes(8)),
+        Order(SEALED, 0x03, NEW)])
+    yield "The same protected row in a tag whose byte 84h is 55h."
+    yield from told(edge_rig(0x55), [PowerUp(), Order(SEALED, 0x00, OLD)])
 
 
 # ---------------------------------------------------------------------------
 # Two tags on one line
 
-PLUG = bytes(8)
-SEALED = bytes([0, 0, 0, 0, 0, 0, 0x01, 0x5E])
+# Six zero bytes and a sum that makes the sum of 0Fh, the address and them 0.
+SUM_ZERO = bytes(6) + crc16(b"\x0F" + bytes(8)).to_bytes(2, "little")
 
 
 def make_pair():
@@ -179,67 +315,66 @@ def make_pair():
 
 
 def answer_lines(rig):
-    rig.power_up()
-    yield "Power-up."
-    yield from search_lines(rig, 8)
-    yield from reading_lines(rig, SEALED, 0x0040)
-    yield from reading_lines(rig, SEALED, 0x0090)
-    yield from reading_lines(rig, PLUG, 0x0038)
-    yield from reading_lines(rig, PLUG, 0x0040)
-
-
-def fuse_line(rig, count):
-    rig.power_up()
-    rig.set_fuse(count, FULL_MASK)
-    return f"Power-up; a fuse that cuts after {count} steps."
+    yield ("Two tags on one line: a practice plug of A5h, and a sealed tag of"
+           " addresses.")
+    yield from told(rig, [
+        PowerUp(), Search(8), Reading(SEALED, 0x40), Reading(SEALED, 0x90),
+        Reading(PLUG, 0x38), Reading(PLUG, 0x40)])
 
 
 def refused_reading_lines(rig):
-    yield from reading_lines(rig, SEALED, 0x0003)
-    yield from reading_lines(rig, NUMBER, 0x0000)
-    rig.cut(0)
-    yield "Cut."
-    yield from reading_lines(rig, SEALED, 0x0040)
-    for count, number, row in ((40, SEALED, 0x0040), (100, PLUG, 0x0000),
-                               (200, SEALED, 0x0040), (266, SEALED, 0x0040)):
-        yield fuse_line(rig, count)
-        yield from reading_lines(rig, number, row)
+    yield ("Readings of a wrong row, of an absent tag, without power, and cut"
+           " short.")
+    yield from told(rig, [
+        Reading(SEALED, 0x03), Reading(GEARBOX, 0x00), Cut(0),
+        Reading(SEALED, 0x40)])
+    for count in (40, 100, 200, 266):
+        yield from told(rig, [PowerUp(), Fuse(count, 0),
+                              Reading(SEALED, 0x40)])
 
 
 def refused_search_lines(rig):
-    yield from search_lines(rig, 8)
-    rig.power_up()
-    yield "Power-up."
-    yield from search_lines(rig, 0)
-    yield from search_lines(rig, 1)
-    for count in (201, 300):
-        yield fuse_line(rig, count)
-        yield from search_lines(rig, 8)
+    yield "Searches without power, with too few places, and cut short."
+    yield from told(rig, [
+        Search(8), PowerUp(), Search(0), Search(1), Fuse(201, 0), Search(8),
+        PowerUp(), Fuse(300, 0), Search(8)])
+
+
+def refused_order_lines(rig):
+    yield "Orders without power, to an absent tag, and cut short."
+    yield from told(rig, [
+        Order(PLUG, 0x00, NEW), PowerUp(), Order(GEARBOX, 0x00, NEW),
+        Order(GEARBOX, 0x00, SUM_ZERO), Fuse(100, 0), Order(PLUG, 0x00, NEW),
+        PowerUp(), Fuse(300, 0), Order(PLUG, 0x00, NEW)])
 
 
 def busy_lines(rig):
-    rig.power_up()
-    for command in (b"\x0F\x08\x00" + bytes(range(1, 9)), b"\x55\x08\x00\x07"):
-        select(rig, PLUG)
-        write(rig, command)
-    yield "Power-up; 0Fh and 55h: the plug programs row 0008h."
-    yield from reading_lines(rig, SEALED, 0x0040)
-    yield from search_lines(rig, 8)
-    rig.dwell()
-    yield "Dwell."
-    yield from reading_lines(rig, PLUG, 0x0008)
-    yield from search_lines(rig, 2)
+    yield ("The plug takes an order, then slots with CCh, 55h, 08h, 00h, 87h;"
+           " it programs again.")
+    yield from told(rig, [PowerUp(), Order(PLUG, 0x08, NEW), Reset()])
+    send(rig, b"\xCC\x55\x08\x00\x87")
+    yield from told(rig, [
+        Reset(), Slot(1), Reading(SEALED, 0x40), Search(8),
+        Order(PLUG, 0x08, NEW), Dwell(), Slot(1), Slot(1),
+        Reading(PLUG, 0x08), Search(2)])
+
+
+def end_lines(rig):
+    yield ("The plug's row 0000h kept its bytes; row 0040h lies above its"
+           " memory.")
+    yield from told(rig, [
+        Reading(PLUG, 0x00), Order(PLUG, 0x40, b"\xFF" * 8),
+        Order(PLUG, 0x40, NEW)])
 
 
 def pair_lines():
-    yield "Two tags joined on one line, and the two jobs of a master."
     rig = make_pair()
-    yield f"Practice plug {spaced(PLUG)}, each byte A5h."
-    yield f"Sealed tag {spaced(SEALED)}, each byte its own address."
     yield from answer_lines(rig)
     yield from refused_reading_lines(rig)
     yield from refused_search_lines(rig)
+    yield from refused_order_lines(rig)
     yield from busy_lines(rig)
+    yield from end_lines(rig)
 
 
 # ---------------------------------------------------------------------------
@@ -252,26 +387,99 @@ def plug_of_serial(serial):
     return one_tag(Chip(number, PracticePlug(bytes(64))))
 
 
-def crowd_lines():
+def many_lines():
     line = open_clip()
     for serial in range(MOST_PASSES + 1):
         line = joint(line, plug_of_serial(serial))
-    rig = Rig(line)
-    rig.power_up()
     yield ("Practice plugs on one line, family 2Dh,"
-           f" serial numbers 0 to {MOST_PASSES}. Power-up.")
-    found = []
-    yield search_line(rig, 100, found)
-    yield f"  First number {spaced(found[0])}."
-    yield f"  Last number {spaced(found[-1])}."
+           f" serial numbers 0 to {MOST_PASSES}.")
+    yield from told(Rig(line), [PowerUp(), Search(100)])
 
 
 def all_lines():
     yield from task_lines()
+    yield from driven_lines()
+    yield from edge_lines()
     yield from pair_lines()
-    yield from crowd_lines()
+    yield from many_lines()
+
+
+# ---------------------------------------------------------------------------
+# Self-check
+
+
+def outcome(rig, *asked):
+    """What an order answers: held, programmed and steps; or its refusal."""
+    try:
+        programmed = order(rig, *asked)
+        return "held", programmed, rig.steps
+    except JobRefused as refused:
+        return (refused.number, refused.exchange, refused.steps,
+                refused.index)
+
+
+def row_of(rig, row):
+    """A row as the model holds it, not as the master reads it."""
+    return bytes(rig.line.chips[0].kind.byte_at(row + i)
+                 for i in range(ROW_LENGTH))
+
+
+def powered_edge_rig(lock=0x00):
+    rig = edge_rig(lock)
+    rig.power_up()
+    return rig
+
+
+def check_fuses():
+    rig = powered_edge_rig()
+    assert outcome(rig, SEALED, 0x40, NEW) == ("held", True, 638)
+    assert row_of(rig, 0x40) == NEW
+    for mask, left in ((0, OLD), (0xFFFF_FFFF, NEW[:4] + OLD[4:])):
+        rig = powered_edge_rig()
+        rig.set_fuse(467, mask)
+        assert outcome(rig, SEALED, 0x40, NEW) == (5, 4, 477, None)
+        assert row_of(rig, 0x40) == left
+    rig = powered_edge_rig()
+    rig.set_fuse(637, 0)
+    assert outcome(rig, SEALED, 0x40, NEW) == (5, 5, 638, None)
+    assert row_of(rig, 0x40) == NEW
+
+
+def check_protection():
+    rig = powered_edge_rig()
+    assert outcome(rig, SEALED, 0x20, b"\x0F" * 8) == (7, 2, 362, 0)
+    assert row_of(rig, 0x20) == OLD
+    assert outcome(rig, SEALED, 0x20, b"\x70" * 8) == ("held", True, 638)
+    assert row_of(rig, 0x20) == b"\x70" * 8
+    assert outcome(rig, SEALED, 0x00, OLD) == ("held", True, 638)
+    assert outcome(rig, SEALED, 0x88, b"\xFF" * 8) == ("held", False, 638)
+    assert outcome(rig, SEALED, 0x88, bytes(8)) == (8, 5, 638, 0)
+    assert outcome(rig, SEALED, 0x03, OLD) == (4, 0, 0, None)
+    locked = powered_edge_rig(0x55)
+    assert outcome(locked, SEALED, 0x00, OLD) == ("held", False, 638)
+
+
+def check_pair():
+    rig = make_pair()
+    rig.power_up()
+    found = []
+    search(rig, 8, found)
+    assert found == [PLUG, SEALED] and rig.steps == 402
+    reading(rig, SEALED, 0x40)
+    assert rig.steps == 267
+    assert outcome(rig, GEARBOX, 0x00, NEW) == (6, 1, 177, None)
+    assert outcome(rig, GEARBOX, 0x00, SUM_ZERO) == (6, 2, 362, None)
+
+
+def check_everything():
+    assert refusal_of(RegistrationNumber, SEALED) is None
+    assert refusal_of(RegistrationNumber, WRONG_SEALED) == 1
+    check_fuses()
+    check_protection()
+    check_pair()
 
 
 if __name__ == "__main__":
+    check_everything()
     for line in all_lines():
         print(line)

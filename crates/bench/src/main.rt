@@ -1,14 +1,19 @@
 #![tactic(auto)]
 
-mod crowd;
+mod asked;
+mod driven;
 mod fault;
-mod pair;
+mod lines;
+mod pulses;
+mod runs;
+mod said;
 mod session;
-mod task;
 
-// Runs a whole task and the two jobs on tags played in software, and says in plain words what was done.
+// Runs whole tasks and their edge cases on tags played in software, and says in plain words what was asked and answered.
 fn main(rt: HostRuntime) -> anyhow::Result<()> {
-    task::run(&rt)?;
-    pair::run(&rt)?;
-    crowd::run(&rt)
+    lines::gearbox(&rt)?;
+    driven::run(&rt)?;
+    lines::edges(&rt)?;
+    lines::pair(&rt)?;
+    lines::many(&rt)
 }

@@ -2,4 +2,3 @@ pub mod Keeps
 pub mod Sound
 pub mod Select
 pub mod SameKind
-pub mod Compared

@@ -5,7 +5,7 @@ use Rattle.bits.specs.Bits.{bits_of, value, same}
 use Rattle.bits.specs.Widths.{value_bits}
 use Rattle.memory.specs.Memories.{Memory, protocols, begin_memory}
 use Rattle.chip.proofs.Keeps.{number-taken}
-use Rattle.chip.specs.Chips.{Live, off, on, idle, command, matching, selected, agreed, reset_live}
+use Rattle.chip.specs.Chips.{Live, Phase, off, on, idle, command, matching, selected, agreed, reset_live}
 use Rattle.chip.specs.Steps.{ChipState, is_busy, pull_of, take_bit, reset_chip, takes, opened_as, opened_by}
 
 -- pulls nothing and is not programming before each of these bits
@@ -109,6 +109,21 @@ module _ (x : ℕ) (m : Memory) where
   opened_takes y (on rc p) hx hy true e = subst (λ z. takes (call64 z) (chip (on rc (command []))) ≡ listening) (eqb-true x y e) (rom_same rc)
   opened_takes y (on rc p) hx hy false e = rom_other y rc hx hy (λ q. true≢false (sym (eq-eqb x y q) ∙ e))
 
+  -- whatever its number: the bits are its own, or one of them differs
+  match_some : (rc : Bool) (p : Phase) (zs ys : List Bool) → length zs ≡ length ys → (t : Bool) × (takes ys (matched zs false) ≡ opened_as (on rc p) t (chip (on rc p)))
+  match_some rc p [] [] e = (true, refl)
+  match_some rc p [] (y ∷ ys) e = absurd (omega arith)
+  match_some rc p (z ∷ zs) [] e = absurd (omega arith)
+  match_some rc p (true ∷ zs) (true ∷ ys) e = match_some rc p zs ys (omega arith)
+  match_some rc p (true ∷ zs) (false ∷ ys) e = (false, takes-idle ys false)
+  match_some rc p (false ∷ zs) (true ∷ ys) e = (false, takes-idle ys false)
+  match_some rc p (false ∷ zs) (false ∷ ys) e = match_some rc p zs ys (omega arith)
+
+  opened_some : (y : ℕ) (l : Live) → (t : Bool) × (takes (call64 y) (after_reset l) ≡ opened_as l t (chip l))
+  opened_some y off = (true, takes-off (call64 y))
+  opened_some y (on rc p) =
+      let s = match_some rc p (bits_of 64 x) (bits_of 64 y) refl in (s.0, takes-append (bits_of 8 0x55) (bits_of 64 y) (chip (on rc (command []))) ∙ s.1)
+
 pub reset_free : (c : ChipState) → is_busy c ≡ false → reset_chip c ≡ after_reset c.number c.memory c.live
 reset_free c e = ap (λ t. record { number = c.number; live = elim t as (λ _. Live) [ true ↦ c.live | false ↦ reset_live protocols c.live ]; memory = c.memory }) e
 
@@ -119,3 +134,8 @@ select_hears y c e = subst (Hears (bits_of 8 0x55 ++ bits_of 64 y)) (sym (reset_
 pub select-takes : (y : ℕ) (c : ChipState) → c.number < 2 ^ 64 → y < 2 ^ 64 → is_busy c ≡ false → takes (bits_of 8 0x55 ++ bits_of 64 y) (reset_chip c) ≡ opened_by y c
 select-takes y c hc hy e =
     ap (takes (bits_of 8 0x55 ++ bits_of 64 y)) (reset_free c e) ∙ opened_takes c.number c.memory y c.live hc hy (eqb c.number y) refl
+
+-- and without a word on the numbers: it is selected, or it is not
+pub select_some : (y : ℕ) (c : ChipState) → is_busy c ≡ false → (t : Bool) × (takes (bits_of 8 0x55 ++ bits_of 64 y) (reset_chip c) ≡ opened_as c.live t c)
+select_some y c e =
+    let s = opened_some c.number c.memory y c.live in (s.0, ap (takes (bits_of 8 0x55 ++ bits_of 64 y)) (reset_free c e) ∙ s.1)

@@ -6,7 +6,10 @@ use Rattle.memory.specs.Memories.{Memory, protocols, begin_memory, take_memory}
 use Rattle.memory.proofs.Sound.{SoundMemory, taken_sound, begun_sound, woken_sound, dwelt_sound, burnt_sound, made_sound}
 use Rattle.chip.specs.Chips.{Live, off, on, Phase, idle, command, sending, matching, seeking, itself, opposite, choice, selected, Command, read_number, match_number, seek_number, skip_number, resume, unknown, command_of, obey, take_in, take_live}
 use Rattle.chip.specs.Steps.{ChipState, has_power, is_busy, take_bit, reset_chip, dwell_chip, cut_chip, power_chip}
-use Rattle.chip.specs.Histories.{Touch, resetting, taking, dwelling, cutting, powering, touch, touches, Met, MetAll}
+use Rattle.chip.specs.Histories.{effects, Met, MetAll}
+use Rattle.chip.specs.Effects.{effect}
+use Rattle.chip.specs.declared.step.Step.{Step}
+use Rattle.chip.specs.declared.step.Step.TheVariants.{Reset, Take, Dwell, Cut, PowerUp}
 use Rattle.bits.proofs.Choice.{pick}
 use Rattle.chip.proofs.Keeps.{number-taken}
 
@@ -68,20 +71,20 @@ sound_cut mask c s = record { wide = s.wide; checked = s.checked; memory = pick 
 pub sound_power : (c : ChipState) → Sound c → Sound (power_chip c)
 sound_power c s = record { wide = s.wide; checked = s.checked; memory = pick (has_power c) SoundMemory s.memory (woken_sound c.memory s.memory) }
 
-sound_touch : (t : Touch) (c : ChipState) → Sound c → Sound (touch t c)
-sound_touch resetting c s = sound_reset c s
-sound_touch (taking b) c s = sound_taken b c s
-sound_touch dwelling c s = sound_dwell c s
-sound_touch (cutting mask) c s = sound_cut mask c s
-sound_touch powering c s = sound_power c s
+sound_effect : (t : Step) (c : ChipState) → Sound c → Sound (effect t c)
+sound_effect Reset c s = sound_reset c s
+sound_effect (Take b) c s = sound_taken b c s
+sound_effect Dwell c s = sound_dwell c s
+sound_effect (Cut mask) c s = sound_cut mask c s
+sound_effect PowerUp c s = sound_power c s
 
-sound_touches : (ts : List Touch) (c : ChipState) → Sound c → Sound (touches ts c)
-sound_touches [] c s = s
-sound_touches (t ∷ ts) c s = sound_touches ts (touch t c) (sound_touch t c s)
+sound_effects : (ts : List Step) (c : ChipState) → Sound c → Sound (effects ts c)
+sound_effects [] c s = s
+sound_effects (t ∷ ts) c s = sound_effects ts (effect t c) (sound_effect t c s)
 
 pub met_sound : (c : ChipState) → Met c → Sound c
 met_sound c m =
-    subst Sound (sym m.so) (sound_touches m.history m.made (record { wide = m.fresh.wide; checked = m.fresh.checked; memory = made_sound m.made.memory m.fresh.memory }))
+    subst Sound (sym m.so) (sound_effects m.history m.made (record { wide = m.fresh.wide; checked = m.fresh.checked; memory = made_sound m.made.memory m.fresh.memory }))
 
 pub met_sounds : (l : List ChipState) → MetAll l → SoundAll l
 met_sounds [] m = tt

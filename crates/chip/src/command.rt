@@ -1,6 +1,6 @@
 ghost use Rattle.std.specs.Prelude.{◌≡◌};
 ghost use Rattle.chip.specs.Chips.{command_of};
-ghost use Rattle.chip.specs.Commands.{byte_of, command_in};
+ghost use Rattle.chip.specs.Commands.{byte_of, meant, command_in};
 
 use memory::command::UnknownCommand;
 
@@ -17,7 +17,8 @@ pub enum NumberCommand {
 
 impl NumberCommand {
     pub fn byte(&self) -> u8
-        ensures { result ≡ byte_of self.now }
+        ensures byte { result ≡ byte_of self.now }
+        ensures meant { command_of result ≡ meant self.now }
     {
         *self as u8
     }

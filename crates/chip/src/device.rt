@@ -1,4 +1,4 @@
-ghost use Rattle.std.specs.Prelude.{◌≡◌, true, false, []};
+ghost use Rattle.std.specs.Prelude.{◌≡◌, true, false, not, []};
 ghost use Rattle.bits.specs.Bits.{same, front_bit, rest_bits, spent};
 ghost use Rattle.memory.specs.Memories.{protocols};
 ghost use Rattle.chip.specs.Chips.{idle, on, at, select, take_in, obey, command, command_of};
@@ -133,25 +133,29 @@ impl<P: Protocol> Chip<P> {
         requires { live_of self.old.live ≡ on rc (phase_of phase) }
         ensures { model P.memory self.new ≡ take_in protocols (phase_of phase) rc bit (model P.memory self.old) }
     {
-        match phase {
-            RomPhase::Idle => {}
-            RomPhase::Command { mut bits } => match bits.push(bit) {
+        match (phase, bit) {
+            (RomPhase::Idle, _) => {}
+            (RomPhase::Command { mut bits }, bit) => match bits.push(bit) {
                 None => self.go(rc, RomPhase::Command { bits }),
                 Some(byte) => self.byte(rc, byte),
             },
-            RomPhase::SendNumber { rest } => match rest.next() {
+            (RomPhase::SendNumber { rest }, _) => match rest.next() {
                 Some(rest) => self.go(rc, RomPhase::SendNumber { rest }),
                 None => self.select(rc),
             },
-            RomPhase::Matching { rest } => {
-                self.compare(rc, rest, bit, |rest| RomPhase::Matching { rest });
+            (RomPhase::Matching { rest } | RomPhase::SeekChoice { rest }, bit)
+                if differs(rest, bit) => {
+                self.go(rc, RomPhase::Idle);
             }
-            RomPhase::SeekItself { rest } => self.go(rc, RomPhase::SeekOpposite { rest }),
-            RomPhase::SeekOpposite { rest } => self.go(rc, RomPhase::SeekChoice { rest }),
-            RomPhase::SeekChoice { rest } => {
-                self.compare(rc, rest, bit, |rest| RomPhase::SeekItself { rest });
+            (RomPhase::Matching { rest }, _) => {
+                self.agree(rc, rest, |rest| RomPhase::Matching { rest });
             }
-            RomPhase::Selected => self.memory.take(bit),
+            (RomPhase::SeekItself { rest }, _) => self.go(rc, RomPhase::SeekOpposite { rest }),
+            (RomPhase::SeekOpposite { rest }, _) => self.go(rc, RomPhase::SeekChoice { rest }),
+            (RomPhase::SeekChoice { rest }, _) => {
+                self.agree(rc, rest, |rest| RomPhase::SeekItself { rest });
+            }
+            (RomPhase::Selected, bit) => self.memory.take(bit),
         }
     }
 
@@ -171,25 +175,15 @@ impl<P: Protocol> Chip<P> {
         self.memory.begin();
     }
 
-    // A compared bit: idle where it differs from the number's, else on with the rest of the number, or after its last bit RC and the memory phase.
-    fn compare<F: FnOnce(Outgoing) -> RomPhase>(
-        &mut self,
-        rc: bool,
-        rest: Outgoing,
-        bit: bool,
-        onward: F,
-    )
+    // A compared bit is the number's: on with the rest of the number, or after its last bit RC and the memory phase.
+    fn agree<F: FnOnce(Outgoing) -> RomPhase>(&mut self, rc: bool, rest: Outgoing, onward: F)
         requires { F.IsAlwaysCallable onward }
-        ensures differs { same (front_bit rest) bit ≡ false → model P.memory self.new ≡ at protocols (model P.memory self.old) (on rc idle) }
-        ensures last { same (front_bit rest) bit ≡ true → spent (rest_bits rest) ≡ true → model P.memory self.new ≡ select protocols (model P.memory self.old) true }
-        ensures more { same (front_bit rest) bit ≡ true → spent (rest_bits rest) ≡ false → Onward (F.post onward (rest_bits rest)) rc (model P.memory self.old) (model P.memory self.new) }
+        ensures last { spent (rest_bits rest) ≡ true → model P.memory self.new ≡ select protocols (model P.memory self.old) true }
+        ensures more { spent (rest_bits rest) ≡ false → Onward (F.post onward (rest_bits rest)) rc (model P.memory self.old) (model P.memory self.new) }
     {
-        if bit != rest.bit() {
-            self.go(rc, RomPhase::Idle);
-        } else if let Some(rest) = rest.next() {
-            self.go(rc, onward(rest));
-        } else {
-            self.select(true);
+        match rest.next() {
+            Some(rest) => self.go(rc, onward(rest)),
+            None => self.select(true),
         }
     }
 
@@ -226,4 +220,11 @@ fn command() -> RomPhase
     RomPhase::Command {
         bits: Incoming::none(),
     }
+}
+
+// A taken bit differs from the next one of the number.
+fn differs(rest: Outgoing, bit: bool) -> bool
+    ensures { result ≡ not (same (front_bit rest) bit) }
+{
+    rest.bit() != bit
 }

@@ -1,5 +1,5 @@
 -- A survey that is lent no more places than it can fill.
-use Rattle.std.proofs.Common.{◌≡◌, ℕ, zero, suc, ◌+◌, ◌-◌, min, Bool, true, false, eqb, List, [], ◌∷◌, ◌++◌, length, take, Ok, Err, Result, sym, refl, ap, ◌∙◌, subst, ap₂, arith}
+use Rattle.std.proofs.Common.{◌≡◌, ℕ, zero, suc, ◌+◌, ◌-◌, min, Bool, true, false, eqb, List, [], ◌∷◌, ◌++◌, length, take, drop, Ok, Err, Result, sym, refl, ap, ◌∙◌, subst, ap₂, arith}
 use Rattle.std.proofs.lemmas.List.{length-append, length-take, take-append-le}
 use Rattle.std.proofs.lemmas.Bool.{eq-eqb, ne_eqb}
 use Rattle.bits.specs.Bits.{value, bits_of}
@@ -10,7 +10,7 @@ use Rattle.wire.specs.declared.fault.Why.TheVariants.{NoPresence, Garbled}
 use Rattle.wire.proofs.Calm.{Leaves, GotAll, leaves_run, leaves_send}
 use Rattle.survey.specs.Surveys.{Next, over, way, passes, most_places, room_of, survey_call}
 use Rattle.survey.specs.Surveys.{listed as surveyed}
-use Rattle.survey.specs.Listing.{survey_answer}
+use Rattle.survey.specs.Listing.{survey_answer, Later}
 use Rattle.survey.specs.declared.fault.SurveyFault.{SurveyFault}
 use Rattle.survey.specs.declared.fault.SurveyFault.TheVariants.{NoPlace, Full, Exchange as InExchange}
 use Rattle.survey.proofs.Complete.{Out, going, seeks, after_reset}
@@ -101,3 +101,18 @@ pub lent_told : (places lent : ℕ) (r s : RigState) (outcome : Result (ℕ × �
 lent_told places lent r s outcome l x e told =
     ap (λ a. (s, listed a)) (longer outcome l x (subst Told (sym (ap (λ (t : RigState × (Report ℕ × List ℕ)). t.1) told)) (sized_call lent r)))
     ∙ ap (λ (t : RigState × (Report ℕ × List ℕ)). (t.0, listed t.1)) (told ∙ ap (λ n. survey_call n r) e ∙ call_same places r)
+
+-- and behind them the list is as it was
+drop_longer : (n : ℕ) (l m x : List ℕ) → length m ≡ length l → drop n m ≡ drop n l → drop n (m ++ x) ≡ drop n (l ++ x)
+drop_longer zero l m x h e = ap (λ k. k ++ x) e
+drop_longer (suc n) [] [] x h e = refl
+drop_longer (suc n) [] (b ∷ bs) x h e = absurd (omega arith)
+drop_longer (suc n) (a ∷ as') [] x h e = absurd (omega arith)
+drop_longer (suc n) (a ∷ as') (b ∷ bs) x h e = drop_longer n as' bs x (omega arith) e
+
+pub later_longer : (r : Result (ℕ × ℕ) SurveyFault) (l m x : List ℕ) → length m ≡ length l → Later r l m → Later r (l ++ x) (m ++ x)
+later_longer (Ok a) l m x h e = drop_longer a.0 l m x h e
+later_longer (Err NoPlace) l m x h e = ap (λ k. k ++ x) e
+later_longer (Err (Full p s)) l m x h e = drop_longer p l m x h e
+later_longer (Err (InExchange (Rig f))) l m x h e = ap (λ k. k ++ x) e
+later_longer (Err (InExchange (Failed why e s))) l m x h q = drop_longer (e - 1) l m x h q

@@ -6,7 +6,7 @@ use Rattle.rig.specs.Rigs.{RigState, made_rig}
 use Rattle.history.specs.Calls.{Request, moments}
 use Rattle.history.specs.Laws.{Along}
 use Rattle.history.specs.Promises.{Preserves, Outlives, Always, ProtectionOutlives}
-use Rattle.history.proofs.Preserved.{Safe, met_safe, touch_preserves, preserves_self, preserves_trans}
+use Rattle.history.proofs.Preserved.{Safe, met_safe, effect_preserves, preserves_self, preserves_trans}
 use Rattle.history.proofs.Moments.{Each, Chain, along_self, along_trans, chain_moments}
 
 -- from a moment q, past r, to all that follow it
@@ -25,7 +25,7 @@ each_safe (c ∷ cs) m = (met_safe c m.0, each_safe cs m.1)
 
 -- from any rig over such chips, whatever its fuse
 pub outlives_from : (r : RigState) → MetAll r.line → (qs : List Request) → Always (r ∷ moments qs r)
-outlives_from r m qs = always r (moments qs r) (chain_moments Safe Preserves preserves_self touch_preserves qs r (each_safe r.line m))
+outlives_from r m qs = always r (moments qs r) (chain_moments Safe Preserves preserves_self effect_preserves qs r (each_safe r.line m))
 
 pub protection_outlives : ProtectionOutlives
 protection_outlives l m qs = outlives_from (made_rig l) m qs

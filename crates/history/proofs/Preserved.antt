@@ -10,7 +10,10 @@ use Rattle.memory.specs.Memories.{Memory, padded, kind_in, bytes_in, begin_memor
 use Rattle.memory.proofs.Sound.{SoundMemory, begun_sound, taken_sound}
 use Rattle.memory.proofs.Ready.{ReadyPad, begun_ready, woken_ready, taken_ready, burnt_each, dwelt_ready}
 use Rattle.chip.specs.Steps.{ChipState, bytes_of, has_power, is_busy, take_bit, reset_chip, dwell_chip, cut_chip, power_chip}
-use Rattle.chip.specs.Histories.{Touch, resetting, taking, dwelling, cutting, powering, touch, touches, Met}
+use Rattle.chip.specs.Histories.{effects, Met}
+use Rattle.chip.specs.Effects.{effect}
+use Rattle.chip.specs.declared.step.Step.{Step}
+use Rattle.chip.specs.declared.step.Step.TheVariants.{Reset, Take, Dwell, Cut, PowerUp}
 use Rattle.chip.proofs.Keeps.{number-taken, bytes_taken, bytes_power, bytes_dwell_idle, bytes_dwell_busy, bytes_cut_idle, bytes_cut_busy, off_powerless, off-busy, off-taken, off-reset}
 use Rattle.chip.proofs.SameKind.{kind_taken, kind_dwell, kind_cut, kind_power}
 use Rattle.chip.proofs.Sound.{Sound, sound_taken, sound_reset, sound_dwell, sound_cut, sound_power, met_sound, taken_keeps}
@@ -124,16 +127,16 @@ keeps_cut mask c s e = go (is_busy c) refl
     go true h = subst (Keeps (bytes_of c)) (sym (bytes_cut_busy mask c h)) (keeps_programmed mask c s h e)
     go false h = keeps_same c (cut_chip mask c) (bytes_cut_idle mask c h)
 
-pub touch_preserves : (t : Touch) (c : ChipState) → Safe c → Safe (touch t c) × Preserves c (touch t c)
-touch_preserves resetting c s =
+pub effect_preserves : (t : Step) (c : ChipState) → Safe c → Safe (effect t c) × Preserves c (effect t c)
+effect_preserves Reset c s =
     (safe_reset c s, record { number = refl; kind = refl; bytes = λ _. keeps_self (bytes_of c) })
-touch_preserves (taking b) c s =
+effect_preserves (Take b) c s =
     (safe_taken b c s, record { number = number-taken b c; kind = kind_taken c b; bytes = λ _. keeps_same c (take_bit b c) (bytes_taken b c) })
-touch_preserves dwelling c s =
+effect_preserves Dwell c s =
     (safe_dwell c s, record { number = refl; kind = kind_dwell c; bytes = keeps_dwell c s })
-touch_preserves (cutting mask) c s =
+effect_preserves (Cut mask) c s =
     (safe_cut mask c s, record { number = refl; kind = kind_cut c mask; bytes = keeps_cut mask c s })
-touch_preserves powering c s =
+effect_preserves PowerUp c s =
     (safe_power c s, record { number = refl; kind = kind_power c; bytes = λ _. keeps_same c (power_chip c) (bytes_power c) })
 
 pub preserves_self : (c : ChipState) → Preserves c c
@@ -147,13 +150,13 @@ preserves_trans c d e g h = record {
 }
 
 -- from the making on
-touches_safe : (ts : List Touch) (c : ChipState) → Safe c → Safe (touches ts c)
-touches_safe [] c s = s
-touches_safe (t ∷ ts) c s = touches_safe ts (touch t c) (touch_preserves t c s).0
+effects_safe : (ts : List Step) (c : ChipState) → Safe c → Safe (effects ts c)
+effects_safe [] c s = s
+effects_safe (t ∷ ts) c s = effects_safe ts (effect t c) (effect_preserves t c s).0
 
 pub met_safe : (c : ChipState) → Met c → Safe c
 met_safe c m =
-    subst Safe (sym m.so) (touches_safe m.history m.made (record {
+    subst Safe (sym m.so) (effects_safe m.history m.made (record {
       sound = met_sound m.made (record { made = m.made; fresh = m.fresh; history = []; so = refl });
       ready = λ e. absurd (true≢false (sym e ∙ ap (λ l. powered l) m.fresh.unpowered));
     }))

@@ -1,10 +1,10 @@
 -- Lists of calls.
-use Rattle.std.proofs.Common.{◌≡◌, ℕ, ◌+◌, ◌<◌, List, [], ◌∷◌, ◌++◌, map, length, get_or, take, set, sym, refl, ap, ◌∙◌}
-use Rattle.std.proofs.lemmas.List.{take_more, take_more_set, map_push}
+use Rattle.std.proofs.Common.{◌≡◌, ℕ, ◌+◌, ◌<◌, List, [], ◌∷◌, ◌++◌, map, length, get_or, take, set, sym, refl, ap, ◌∙◌, subst, arith}
+use Rattle.std.proofs.lemmas.List.{take_more, take_more_set, map_push, length-take}
 use Rattle.rig.specs.Rigs.{RigState}
 use Rattle.history.specs.declared.calls.Call.{Call}
 use Rattle.history.specs.declared.calls.Answer.{Answer}
-use Rattle.history.specs.Meaning.{request_of, reply_of}
+use Rattle.history.specs.Meaning.{request_of, reply_of, call_count, tally, Unfilled, AllUnfilled}
 use Rattle.history.specs.Calls.{Reply, run_all, serve, serve_all}
 
 module _ {S Q A : Type 0} (f : Q → S → S × A) where
@@ -37,3 +37,27 @@ Played s n answers calls r = ◌≡◌ {A = RigState × List Reply} (s, map repl
 pub played_more : (calls : List Call) (answers : List Answer) (i : ℕ) (q : Call) (a : Answer) (r s t : RigState) → i < length calls → i < length answers
     → Played s i answers calls r → ◌≡◌ {A = RigState × Reply} (t, reply_of a) (serve (request_of q) s) → q ≡ get_or calls i q → Played t (i + 1) (set answers i a) calls r
 played_more calls answers i q a r s t hc ha before one at = turn serve request_of reply_of calls answers i q a r s t hc ha before (one ∙ ap (λ c. serve (request_of c) s) at)
+
+-- what the rig has counted after one call more
+tally_push : (qs : List Call) (rs : List Answer) (q : Call) (a : Answer) (n : ℕ) → length qs ≡ length rs → tally (qs ++ (q ∷ [])) (rs ++ (a ∷ [])) n ≡ call_count q a (tally qs rs n)
+tally_push [] [] q a n h = refl
+tally_push [] (b ∷ bs) q a n h = absurd (omega arith)
+tally_push (p ∷ ps) [] q a n h = absurd (omega arith)
+tally_push (p ∷ ps) (b ∷ bs) q a n h = tally_push ps bs q a (call_count p b n) (omega arith)
+
+pub tally_more : (calls : List Call) (answers : List Answer) (i : ℕ) (q : Call) (a : Answer) (n m t : ℕ) → i < length calls → i < length answers
+    → m ≡ tally (take i calls) (take i answers) n → t ≡ call_count q a m → q ≡ get_or calls i q → t ≡ tally (take (i + 1) calls) (take (i + 1) (set answers i a)) n
+tally_more calls answers i q a n m t hc ha before one at =
+    let long : length (take i calls) ≡ length (take i answers) = omega (arith, length-take i calls, length-take i answers) in
+    one ∙ ap (λ c. call_count c a m) at ∙ ap (call_count (get_or calls i q) a) before
+    ∙ sym (tally_push (take i calls) (take i answers) (get_or calls i q) a n long)
+    ∙ ap (λ cs. tally cs (take i answers ++ (a ∷ [])) n) (sym (take_more calls i q hc))
+    ∙ ap (λ rs. tally (take (i + 1) calls) rs n) (sym (take_more_set answers i a ha))
+
+-- and one more list whose other places are as they were lent
+all_push : (rs : List Answer) (a : Answer) → AllUnfilled rs → Unfilled a → AllUnfilled (rs ++ (a ∷ []))
+all_push [] a h u = (u, tt)
+all_push (b ∷ bs) a h u = (h.0, all_push bs a h.1 u)
+
+pub unfilled_more : (answers : List Answer) (i : ℕ) (a : Answer) → i < length answers → AllUnfilled (take i answers) → Unfilled a → AllUnfilled (take (i + 1) (set answers i a))
+unfilled_more answers i a h before u = subst AllUnfilled (sym (take_more_set answers i a h)) (all_push (take i answers) a before u)

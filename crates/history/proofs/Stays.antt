@@ -2,7 +2,10 @@
 use Rattle.std.proofs.Common.{◌≡◌, ℕ, Bool, true, false, List, [], ◌∷◌, ◌++◌, map, sym, refl, ap, ◌∙◌, ap₂}
 use Rattle.kind.specs.Kinds.{whole_row}
 use Rattle.chip.specs.Steps.{ChipState, is_busy, dwell_chip, cut_chip}
-use Rattle.chip.specs.Histories.{Touch, resetting, taking, dwelling, cutting, powering, touch, touches, Met, MetAll}
+use Rattle.chip.specs.Histories.{effects, Met, MetAll}
+use Rattle.chip.specs.Effects.{effect}
+use Rattle.chip.specs.declared.step.Step.{Step}
+use Rattle.chip.specs.declared.step.Step.TheVariants.{Reset, Take, Dwell, Cut, PowerUp}
 use Rattle.chip.proofs.Keeps.{number-taken, bytes_taken, bytes_reset, bytes_power, bytes_dwell_idle, bytes_dwell_busy, bytes_cut_idle, bytes_cut_busy, off_powerless, power_same}
 use Rattle.rig.specs.Rigs.{RigState}
 use Rattle.history.specs.Calls.{Request, reset, slot, dwell, cut, power_up, fuse, survey, read, order, serve, moments}
@@ -21,12 +24,12 @@ Free c d = Unit {0}
 abbrev SameNumber : ChipState → ChipState → Type 0
 SameNumber c d = d.number ≡ c.number
 
-number-touch : (t : Touch) (c : ChipState) → Any c → Any (touch t c) × SameNumber c (touch t c)
-number-touch resetting c u = (tt, refl)
-number-touch (taking b) c u = (tt, number-taken b c)
-number-touch dwelling c u = (tt, refl)
-number-touch (cutting mask) c u = (tt, refl)
-number-touch powering c u = (tt, refl)
+number-effect : (t : Step) (c : ChipState) → Any c → Any (effect t c) × SameNumber c (effect t c)
+number-effect Reset c u = (tt, refl)
+number-effect (Take b) c u = (tt, number-taken b c)
+number-effect Dwell c u = (tt, refl)
+number-effect (Cut mask) c u = (tt, refl)
+number-effect PowerUp c u = (tt, refl)
 
 any_each : (R : ChipState → ChipState → Type 0) (l : List ChipState) → Each Any R l
 any_each R [] = tt
@@ -39,7 +42,7 @@ along_numbers (c ∷ cs) [] h = absurd h
 along_numbers (c ∷ cs) (d ∷ ds) h = ap₂ (λ x xs. x ∷ xs) h.0 (along_numbers cs ds h.1)
 
 pub numbers_stay : NumbersStay
-numbers_stay r qs = along_numbers r.line _ (onward_all Any SameNumber (λ c. refl) number-touch (λ c d e g h. h ∙ g) qs r (any_each SameNumber r.line)).1
+numbers_stay r qs = along_numbers r.line _ (onward_all Any SameNumber (λ c. refl) number-effect (λ c d e g h. h ∙ g) qs r (any_each SameNumber r.line)).1
 
 -- bytes
 change_dwell : (c : ChipState) → Change c (dwell_chip c)
@@ -56,19 +59,19 @@ change_cut mask c = go (is_busy c) refl
     go true h = programmed mask h (bytes_cut_busy mask c h)
     go false h = same (bytes_cut_idle mask c h)
 
-change_touch : (t : Touch) (c : ChipState) → Any c → Any (touch t c) × Change c (touch t c)
-change_touch resetting c u = (tt, same (bytes_reset c))
-change_touch (taking b) c u = (tt, same (bytes_taken b c))
-change_touch dwelling c u = (tt, change_dwell c)
-change_touch (cutting mask) c u = (tt, change_cut mask c)
-change_touch powering c u = (tt, same (bytes_power c))
+change_effect : (t : Step) (c : ChipState) → Any c → Any (effect t c) × Change c (effect t c)
+change_effect Reset c u = (tt, same (bytes_reset c))
+change_effect (Take b) c u = (tt, same (bytes_taken b c))
+change_effect Dwell c u = (tt, change_dwell c)
+change_effect (Cut mask) c u = (tt, change_cut mask c)
+change_effect PowerUp c u = (tt, same (bytes_power c))
 
 stepwise : (R : ChipState → ChipState → Type 0) (r : RigState) (ss : List RigState) → Chain Any R r ss → Stepwise R r ss
 stepwise R r [] c = tt
 stepwise R r (s ∷ ss) c = (c.0.1, stepwise R s ss c.1)
 
 pub steps_only_program : StepsOnlyProgram
-steps_only_program r qs = stepwise Change r _ (chain_moments Any Change (λ c. same refl) change_touch qs r (any_each Change r.line))
+steps_only_program r qs = stepwise Change r _ (chain_moments Any Change (λ c. same refl) change_effect qs r (any_each Change r.line))
 
 pub only_programming : OnlyProgramming
 only_programming r q p = go q p (steps_only_program r (q ∷ []))
@@ -88,16 +91,16 @@ pub power_up_forgets : PowerUpForgets
 power_up_forgets c d e f n k b = power_same c d (off_powerless c e) (off_powerless d f) n k b
 
 -- what chips have met
-one_more : (ts : List Touch) (t : Touch) (c : ChipState) → touches (ts ++ (t ∷ [])) c ≡ touch t (touches ts c)
+one_more : (ts : List Step) (t : Step) (c : ChipState) → effects (ts ++ (t ∷ [])) c ≡ effect t (effects ts c)
 one_more [] t c = refl
-one_more (s ∷ ts) t c = one_more ts t (touch s c)
+one_more (s ∷ ts) t c = one_more ts t (effect s c)
 
-met_on : (t : Touch) (c : ChipState) → Met c → Met (touch t c)
+met_on : (t : Step) (c : ChipState) → Met c → Met (effect t c)
 met_on t c m = record {
   made = m.made;
   fresh = m.fresh;
   history = m.history ++ (t ∷ []);
-  so = ap (touch t) m.so ∙ sym (one_more m.history t m.made);
+  so = ap (effect t) m.so ∙ sym (one_more m.history t m.made);
 }
 
 met_each : (l : List ChipState) → MetAll l → Each Met Free l

@@ -1,10 +1,12 @@
 -- What the calls and answers of the code mean.
+use Rattle.std.specs.Prelude.{ℕ, Ok, Err, List, [], ◌∷◌, replicate}
 use Rattle.rig.specs.Meaning.{refusal}
-use Rattle.std.specs.Prelude.{Ok, Err, []}
+use Rattle.rig.specs.Rigs.{counted}
 use Rattle.wire.specs.Jobs.{answered}
-use Rattle.reading.specs.Meaning.{read_report}
-use Rattle.survey.specs.Listing.{survey_answer}
-use Rattle.order.specs.Meaning.{order_verdict}
+use Rattle.reading.specs.Meaning.{read_report, read_count}
+use Rattle.survey.specs.Listing.{survey_answer, survey_count, Later}
+use Rattle.survey.specs.Surveys.{most_places}
+use Rattle.order.specs.Meaning.{order_verdict, order_count}
 use Rattle.history.specs.Calls.{Request, reset, slot, dwell, cut, power_up, fuse, survey, read, order, Reply, presence_is, bit_is, done, refused_with, listed, row_is, judged_as}
 use Rattle.history.specs.declared.calls.Call.{Call}
 use Rattle.history.specs.declared.calls.Call.TheVariants.{Reset, Slot, Dwell, Cut, PowerUp, SetFuse, Survey, Read, Order}
@@ -32,3 +34,46 @@ reply_of (Listed outcome places) = listed (survey_answer outcome places)
 reply_of (Row (Ok a)) = row_is (answered a.0 a.1)
 reply_of (Row (Err f)) = row_is (read_report (Err f) [])
 reply_of (Judged outcome) = judged_as (order_verdict outcome)
+
+-- what the rig has counted after an answer: a step more, or the steps that a job answers; a call refused before any step leaves the count
+abbrev pub answer_count : Answer → ℕ → ℕ
+answer_count (Presence (Ok present)) n = counted n
+answer_count (Presence (Err f)) n = n
+answer_count (Bit (Ok bit)) n = counted n
+answer_count (Bit (Err f)) n = n
+answer_count Done n = n
+answer_count (Listed outcome places) n = survey_count n outcome
+answer_count (Row (Ok a)) n = a.1
+answer_count (Row (Err f)) n = read_count n (Err f)
+answer_count (Judged outcome) n = order_count n outcome
+
+-- a dwell is a step; a cut, a power-up and the setting of a fuse are none
+abbrev pub call_count : Call → Answer → ℕ → ℕ
+call_count Reset a n = answer_count a n
+call_count (Slot bit) a n = answer_count a n
+call_count Dwell a n = counted n
+call_count (Cut mask) a n = n
+call_count PowerUp a n = n
+call_count (SetFuse f) a n = n
+call_count (Survey places) a n = answer_count a n
+call_count (Read number row) a n = answer_count a n
+call_count (Order number row new) a n = answer_count a n
+
+-- and after a list of calls
+abbrev pub tally : List Call → List Answer → ℕ → ℕ
+tally [] rs n = n
+tally (q ∷ qs) [] n = n
+tally (q ∷ qs) (a ∷ rs) n = tally qs rs (call_count q a n)
+
+-- the places of a list that its answer does not tell of are 0, as they were lent
+abbrev pub Unfilled : Answer → Type 0
+Unfilled (Presence r) = Unit {0}
+Unfilled (Bit r) = Unit {0}
+Unfilled Done = Unit {0}
+Unfilled (Listed outcome places) = Later outcome (replicate most_places 0) places
+Unfilled (Row r) = Unit {0}
+Unfilled (Judged outcome) = Unit {0}
+
+abbrev pub AllUnfilled : List Answer → Type 0
+AllUnfilled [] = Unit {0}
+AllUnfilled (a ∷ rs) = Unfilled a × AllUnfilled rs

@@ -1,10 +1,10 @@
 ghost use Rattle.std.specs.Prelude.{◌≡◌, min, ◌∷◌, map, length, take, drop};
-ghost use Rattle.rig.specs.Meaning.{rig_of};
+ghost use Rattle.rig.specs.Meaning.{rig_of, counting};
 ghost use Rattle.chip.specs.Histories.{MetAll};
 ghost use Rattle.history.specs.Calls.{serve, serve_all, moments};
 ghost use Rattle.history.specs.Edges.{EdgeRuns};
 ghost use Rattle.history.specs.Laws.{numbers, NumbersStay, OnlyProgramming, StepsOnlyProgram, SilentUnpowered, PowerUpForgets, MetStays};
-ghost use Rattle.history.specs.Meaning.{request_of, reply_of};
+ghost use Rattle.history.specs.Meaning.{request_of, reply_of, answer_count, call_count, tally, Unfilled, AllUnfilled};
 ghost use Rattle.history.specs.Promises.{Always, Promises};
 ghost use Rattle.history.specs.declared.calls.Call.TheVariants.{Survey, Read};
 
@@ -19,7 +19,9 @@ use survey::listing::{MOST_PLACES, survey};
 
 // A survey with a list of its own: it fills at most 64 places, so no more are lent.
 fn make_survey<L: Line>(rig: &mut Rig<L>, places: usize) -> Answer
-    ensures { (rig_of L.chips rig.new, reply_of result) ≡ serve (request_of (Survey places)) (rig_of L.chips rig.old) }
+    ensures told { (rig_of L.chips rig.new, reply_of result) ≡ serve (request_of (Survey places)) (rig_of L.chips rig.old) }
+    ensures counted { (counting L.chips rig.new).steps ≡ answer_count result (counting L.chips rig.old).steps }
+    ensures rest { Unfilled result }
 {
     let mut list = [0; MOST_PLACES];
     let lent = places.min(MOST_PLACES);
@@ -32,7 +34,8 @@ fn make_survey<L: Line>(rig: &mut Rig<L>, places: usize) -> Answer
 
 // A reading into a row of its own.
 fn make_reading<L: Line>(rig: &mut Rig<L>, number: Number, row: u16) -> Answer
-    ensures { (rig_of L.chips rig.new, reply_of result) ≡ serve (request_of (Read number row)) (rig_of L.chips rig.old) }
+    ensures told { (rig_of L.chips rig.new, reply_of result) ≡ serve (request_of (Read number row)) (rig_of L.chips rig.old) }
+    ensures counted { (counting L.chips rig.new).steps ≡ answer_count result (counting L.chips rig.old).steps }
 {
     let mut found = [0; ROW];
     let outcome = read_row(rig, number, row, &mut found);
@@ -41,7 +44,9 @@ fn make_reading<L: Line>(rig: &mut Rig<L>, number: Number, row: u16) -> Answer
 
 // One call, and its answer. A call is data, from letters or lists: one arm for each.
 pub fn make_call<L: Line>(rig: &mut Rig<L>, call: Call) -> Answer
-    ensures { (rig_of L.chips rig.new, reply_of result) ≡ serve (request_of call) (rig_of L.chips rig.old) }
+    ensures told { (rig_of L.chips rig.new, reply_of result) ≡ serve (request_of call) (rig_of L.chips rig.old) }
+    ensures counted { (counting L.chips rig.new).steps ≡ call_count call result (counting L.chips rig.old).steps }
+    ensures rest { Unfilled result }
 {
     match call {
         Call::Reset => Answer::Presence(rig.reset()),
@@ -73,6 +78,8 @@ pub fn make_call<L: Line>(rig: &mut Rig<L>, call: Call) -> Answer
 pub fn play<L: Line>(rig: &mut Rig<L>, calls: &[Call], answers: &mut [Answer]) -> usize
     ensures count { result ≡ min (length calls.now) (length answers.old) }
     ensures told { (rig_of L.chips rig.new, map reply_of (take result answers.new)) ≡ serve_all (map request_of (take result calls.now)) (rig_of L.chips rig.old) }
+    ensures counted { (counting L.chips rig.new).steps ≡ tally (take result calls.now) (take result answers.new) (counting L.chips rig.old).steps }
+    ensures rest { AllUnfilled (take result answers.new) }
     ensures later { drop result answers.new ≡ drop result answers.old }
     ensures here { numbers (rig_of L.chips rig.new) ≡ numbers (rig_of L.chips rig.old) }
     ensures numbers { NumbersStay }

@@ -1,6 +1,6 @@
 ghost use Rattle.std.specs.Prelude.{◌≡◌};
 ghost use Rattle.memory.specs.Scratchpads.{command_of};
-ghost use Rattle.memory.specs.Commands.{byte_of, command_in};
+ghost use Rattle.memory.specs.Commands.{byte_of, meant, command_in};
 
 // The commands of the memory phase, each with its byte.
 // Not one type with the commands on a number: the same byte is another command there.
@@ -18,7 +18,8 @@ pub struct UnknownCommand(pub u8);
 
 impl MemoryCommand {
     pub fn byte(&self) -> u8
-        ensures { result ≡ byte_of self.now }
+        ensures byte { result ≡ byte_of self.now }
+        ensures meant { command_of result ≡ meant self.now }
     {
         *self as u8
     }

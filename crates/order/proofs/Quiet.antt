@@ -1,25 +1,24 @@
 -- An order is refused with 3 at its first pulse or never; and one refused with 7 changes no byte.
-use Rattle.std.proofs.Common.{◌≡◌, ℕ, ◌/◌, ◌%◌, ◌^◌, ◌<◌, Bool, true, false, eqb, List, [], ◌∷◌, map, get_or, take, drop, Some, None, Option, sym, refl, ap, subst, arith}
+use Rattle.std.proofs.Common.{◌≡◌, ℕ, ◌/◌, ◌%◌, Bool, true, false, eqb, List, [], ◌∷◌, map, get_or, take, drop, Some, None, Option, sym, refl, ap, subst, arith}
+use Rattle.std.proofs.lemmas.Simd.{map-map}
 use Rattle.bits.specs.Bits.{bits_of, bits_all, value}
 use Rattle.bits.proofs.Choice.{pick}
 use Rattle.sums.specs.Sums.{inverted}
 use Rattle.memory.specs.Scratchpads.{Work, copies as accepts, working}
 use Rattle.memory.specs.Memories.{Memory, padded}
-use Rattle.chip.specs.Chips.{Live, off, selected}
+use Rattle.chip.specs.Chips.{selected}
 use Rattle.chip.specs.Chips.{on as under}
-use Rattle.chip.specs.Steps.{ChipState, bytes_of, dwell_chip, takes, opened_as, opened_by}
-use Rattle.chip.proofs.Sound.{met_sounds}
-use Rattle.chip.proofs.Select.{Hears, listening, takes-number, takes-idle, takes-off}
+use Rattle.chip.specs.Steps.{ChipState, bytes_of, dwell_chip, takes}
+use Rattle.chip.proofs.Select.{Hears, listening, takes-idle, takes-off}
 use Rattle.line.specs.Lines.{busy}
 use Rattle.rig.specs.Rigs.{RigState, dwells}
 use Rattle.wire.specs.Jobs.{Job, step, Got, done, line_busy, run, send_bits, send_bytes, read_bytes}
 use Rattle.wire.specs.Exchanges.{answer, read as listens, pulses}
 use Rattle.wire.specs.declared.fault.Why.{Why}
 use Rattle.wire.specs.declared.fault.Why.TheVariants.{NoPresence, Garbled}
-use Rattle.wire.proofs.Leading.{WideAll, send-append}
+use Rattle.wire.proofs.Leading.{send-append}
 use Rattle.wire.proofs.Power.{first_refused}
-use Rattle.wire.proofs.Calm.{Leaves, GotAll, leaves, leaves_run, DwellFree, Gets, bytes_unless, Still, still_free, dwell_free, Unrefused, Ended, unrefused_run, unrefused_opening, begun_hear, command_hears, command_calm, CalmChip, CalmAll, calm_busy, calm_wide, calm_send, calm_bytes, heard_send}
-use Rattle.wire.proofs.Selected.{sound_wide}
+use Rattle.wire.proofs.Calm.{Leaves, GotAll, leaves, leaves_run, DwellFree, Gets, bytes_unless, Still, still_free, dwell_free, Unrefused, Ended, unrefused_run, unrefused_opening, BegunAll, begun_hear, begun_calm, command_hears, command_calm, CalmChip, CalmAll, calm_busy, calm_send, calm_bytes, heard_send}
 use Rattle.reading.specs.Readings.{finds, closes}
 use Rattle.reading.proofs.Quiet.{still_closes, un_close, un_find}
 use Rattle.writing.specs.Differences.{first_difference}
@@ -137,34 +136,29 @@ module _ (a b c : ℕ) where
       pick (accepts p.rules p.bytes (value (bits_of 8 a)) (value (bits_of 8 b)) (value (bits_of 8 c)) p.work.regs)
       (λ (w : Work). CalmChip (dwell_chip (record { number = x; live = under true selected; memory = padded (working p w) }))) tt tt
 
-  dwelt_one : (x : ℕ) (m : Memory) (l : Live) (t : Bool) → x < 2 ^ 64
-      → CalmChip (dwell_chip (takes bits (opened_as l t (record { number = x; live = l; memory = m })))) × ((dwell_chip (takes bits (opened_as l t (record { number = x; live = l; memory = m })))).number < 2 ^ 64)
-  dwelt_one x m off t w =
-      (subst (λ d. CalmChip (dwell_chip d)) (sym (takes-off x m bits)) tt, subst (λ d. (dwell_chip d).number < 2 ^ 64) (sym (takes-off x m bits)) w)
-  dwelt_one x m (under rc p) true w = (listening_dwelt x m, subst (λ n. n < 2 ^ 64) (sym (takes-number bits (listening x m))) w)
-  dwelt_one x m (under rc p) false w =
-      (subst (λ d. CalmChip (dwell_chip d)) (sym (takes-idle x m bits false)) tt, subst (λ d. (dwell_chip d).number < 2 ^ 64) (sym (takes-idle x m bits false)) w)
-
-  dwelt_calm : (x : ℕ) (l : List ChipState) → WideAll l → CalmAll (map dwell_chip (map (takes bits) (map (opened_by x) l)))
-  dwelt_calm x [] w = tt
-  dwelt_calm x (d ∷ ds) w = (dwelt_one d.number d.memory d.live (eqb d.number x) w.0, dwelt_calm x ds w.1)
+  dwelt_calm : (l : List ChipState) → BegunAll l → CalmAll (map (λ c. dwell_chip (takes bits c)) l)
+  dwelt_calm =
+      begun_calm (λ c. dwell_chip (takes bits c)) (λ x m. subst (λ d. CalmChip (dwell_chip d)) (sym (takes-off x m bits)) tt) listening_dwelt
+      (λ x m. subst (λ d. CalmChip (dwell_chip d)) (sym (takes-idle x m bits false)) tt)
 
 -- 2. no pulse of an order is refused on a line that was not busy
-module _ (x row : ℕ) (new : List ℕ) (hx : x < 2 ^ 64) where
+module _ (x row : ℕ) (new : List ℕ) where
   un_concludes : (programmed : Bool) (l : List ChipState) → CalmAll l → Unrefused (finds_and_closes x row new programmed) l
   un_concludes programmed l h =
-      un_find x row hx 4 (closing new programmed) failed (λ xs. un_close 5 (ends new programmed xs) failed (λ _. tt) (λ _. tt)) (λ _. tt) l (calm_wide l h) (calm_busy l h)
+      un_find x row 4 (closing new programmed) failed (λ xs. un_close 5 (ends new programmed xs) failed (λ _. tt) (λ _. tt)) (λ _. tt) l (calm_busy l h)
 
   abbrev said : List ℕ → Job Ending
   said got = finds_and_closes x row new (eqb (get_or got 0 0) programmed_byte)
 
-  un_copies : (o : Option ℕ) (l : List ChipState) → WideAll l → busy l ≡ false → Unrefused (copies_if x row new o) l
-  un_copies (Some i) l w e = tt
-  un_copies None l w e =
-      unrefused_opening x (send_bytes (0x55 ∷ row % 256 ∷ row / 256 ∷ whole_status ∷ []) (step dwells (λ _. read_bytes 1 said))) (failed NoPresence 3) l hx w e (λ _. tt)
-      (heard_send (bits (row % 256) (row / 256) whole_status) (step dwells (λ _. read_bytes 1 said)) (map (opened_by x) l)
-      (begun_hear (bits (row % 256) (row / 256) whole_status) (copy_heard (row % 256) (row / 256) whole_status) x l)
-      (refl, calm_bytes 1 said _ (dwelt_calm (row % 256) (row / 256) whole_status x l w) (λ got. un_concludes (eqb (get_or got 0 0) programmed_byte))))
+  abbrev sent : List Bool
+  sent = bits (row % 256) (row / 256) whole_status
+
+  un_copies : (o : Option ℕ) (l : List ChipState) → busy l ≡ false → Unrefused (copies_if x row new o) l
+  un_copies (Some i) l e = tt
+  un_copies None l e =
+      unrefused_opening x (send_bytes (0x55 ∷ row % 256 ∷ row / 256 ∷ whole_status ∷ []) (step dwells (λ _. read_bytes 1 said))) (failed NoPresence 3) l e (λ _. tt)
+      (λ l' o. heard_send sent (step dwells (λ _. read_bytes 1 said)) l' (begun_hear sent (copy_heard (row % 256) (row / 256) whole_status) l' o)
+      (refl, calm_bytes 1 said (map dwell_chip (map (takes sent) l')) (subst CalmAll (sym (map-map dwell_chip (takes sent) l')) (dwelt_calm (row % 256) (row / 256) whole_status l' o)) (λ got. un_concludes (eqb (get_or got 0 0) programmed_byte))))
 
   un_told : (got : List ℕ) (l : List ChipState) → CalmAll l → Unrefused (told x row new got) l
   un_told got l h = go (target row got) (summed row got)
@@ -172,28 +166,28 @@ module _ (x row : ℕ) (new : List ℕ) (hx : x < 2 ^ 64) where
       go : (a b : Option ℕ) → Unrefused (pulses (judged2 a b (take 8 (drop 3 got))) (copying x row new) failed) l
       go (Some i) b = tt
       go None (Some i) = tt
-      go None None = un_copies (first_difference new (take 8 (drop 3 got))) l (calm_wide l h) (calm_busy l h)
+      go None None = un_copies (first_difference new (take 8 (drop 3 got))) l (calm_busy l h)
 
-  un_checks : (l : List ChipState) → WideAll l → busy l ≡ false → Unrefused (checking x row new tt) l
-  un_checks l w e =
-      unrefused_opening x (send_bytes (0xAA ∷ []) (read_bytes 13 (told x row new))) (failed NoPresence 2) l hx w e (λ _. tt)
-      (heard_send (bits_of 8 0xAA) (read_bytes 13 (told x row new)) (map (opened_by x) l) (command_hears 0xAA x l)
-      (calm_bytes 13 (told x row new) (map (takes (bits_of 8 0xAA)) (map (opened_by x) l)) (command_calm 0xAA (λ K m r. tt) x l w) un_told))
+  un_checks : (l : List ChipState) → busy l ≡ false → Unrefused (checking x row new tt) l
+  un_checks l e =
+      unrefused_opening x (send_bytes (0xAA ∷ []) (read_bytes 13 (told x row new))) (failed NoPresence 2) l e (λ _. tt)
+      (λ l' o. heard_send (bits_of 8 0xAA) (read_bytes 13 (told x row new)) l' (command_hears 0xAA l' o)
+      (calm_bytes 13 (told x row new) (map (takes (bits_of 8 0xAA)) l') (command_calm 0xAA (λ K m r. tt) l' o) un_told))
 
   un_next : (got : List ℕ) (l : List ChipState) → CalmAll l → Unrefused (next x row new got) l
   un_next got l h = go (first_difference got (inverted (sent_sum row new)))
     where
       go : (o : Option ℕ) → Unrefused (pulses (judged1 o) (checking x row new) failed) l
-      go None = un_checks l (calm_wide l h) (calm_busy l h)
+      go None = un_checks l (calm_busy l h)
       go (Some i) = tt
 
-  pub unrefused : (l : List ChipState) → WideAll l → busy l ≡ false → Unrefused (ordering x row new) l
-  unrefused l w e =
-      unrefused_opening x (send_bytes (0x0F ∷ row % 256 ∷ row / 256 ∷ []) (send_bytes new (read_bytes 2 (next x row new)))) (failed NoPresence 1) l hx w e (λ _. tt)
-      (subst (λ j. Unrefused j (map (opened_by x) l)) (sym (send-append (bits_of 8 0x0F) (bits_all (row % 256 ∷ row / 256 ∷ [])) (send_bytes new (read_bytes 2 (next x row new)))))
-      (heard_send (bits_of 8 0x0F) (send_bits (bits_all (row % 256 ∷ row / 256 ∷ [])) (send_bytes new (read_bytes 2 (next x row new)))) (map (opened_by x) l) (command_hears 0x0F x l)
-      (calm_send (bits_all (row % 256 ∷ row / 256 ∷ [])) (send_bytes new (read_bytes 2 (next x row new))) (map (takes (bits_of 8 0x0F)) (map (opened_by x) l)) (command_calm 0x0F (λ K m r. tt) x l w)
-      (λ l' h. calm_send (bits_all new) (read_bytes 2 (next x row new)) l' h (λ l'' h''. calm_bytes 2 (next x row new) l'' h'' un_next)))))
+  pub unrefused : (l : List ChipState) → busy l ≡ false → Unrefused (ordering x row new) l
+  unrefused l e =
+      unrefused_opening x (send_bytes (0x0F ∷ row % 256 ∷ row / 256 ∷ []) (send_bytes new (read_bytes 2 (next x row new)))) (failed NoPresence 1) l e (λ _. tt)
+      (λ l' o. subst (λ j. Unrefused j l') (sym (send-append (bits_of 8 0x0F) (bits_all (row % 256 ∷ row / 256 ∷ [])) (send_bytes new (read_bytes 2 (next x row new)))))
+      (heard_send (bits_of 8 0x0F) (send_bits (bits_all (row % 256 ∷ row / 256 ∷ [])) (send_bytes new (read_bytes 2 (next x row new)))) l' (command_hears 0x0F l' o)
+      (calm_send (bits_all (row % 256 ∷ row / 256 ∷ [])) (send_bytes new (read_bytes 2 (next x row new))) (map (takes (bits_of 8 0x0F)) l') (command_calm 0x0F (λ K m r. tt) l' o)
+      (λ l'' h. calm_send (bits_all new) (read_bytes 2 (next x row new)) l'' h (λ l''' h'. calm_bytes 2 (next x row new) l''' h' un_next)))))
 
 -- 3. so refusal 3 leaves all unchanged
 abbrev NotThree : Ending → Type 0
@@ -278,14 +272,11 @@ abbrev call_at : ℕ → ℕ → List ℕ → RigState → Bool → RigState × 
 call_at x row new r t = elim t [ false ↦ (r, refuses 4 0 0) | true ↦ with_verdict (run 0 (ordering x row new) r) ]
 
 pub busy_unchanged : BusyUnchanged
-busy_unchanged r x row e n new m hx len small q = go (eqb (row % 8) 0) q
+busy_unchanged r x row e n new q = go (eqb (row % 8) 0) q
   where
-    wide : WideAll r.line
-    wide = sound_wide r.line (met_sounds r.line m)
-
     begun : (t : Bool) → busy r.line ≡ t → (run 0 (ordering x row new) r).got ≡ line_busy → ((run 0 (ordering x row new) r).rig ≡ r) × (busy r.line ≡ true)
     begun true b g = (ap (λ w. w.rig) (first_refused 0 (ordering x row new) r tt b), b)
-    begun false b g = absurd (subst Ended g (unrefused_run 0 (ordering x row new) r.line r.fuse (unrefused x row new hx r.line wide b)))
+    begun false b g = absurd (subst Ended g (unrefused_run 0 (ordering x row new) r.line r.fuse (unrefused x row new r.line b)))
 
     said : (g : Got Ending) (k : ℕ) → GotAll NotThree g → verdict_of g k ≡ refuses 3 e n → g ≡ line_busy
     said (done (held p)) k h q = let z : ◌≡◌ {A = ℕ} 0 1 = cc in absurd (omega arith)

@@ -46,11 +46,10 @@ OrderTells =
     (r : RigState) (x row : ℕ) (new : List ℕ) → MetAll r.line → x < 2 ^ 64 → row < 65536 → length new ≡ row_length → Bytes new
     → Began (order_call x row new r).1 → Single x r.line → Tells x row new r
 
--- refusal 3 comes before any step, to a line that is busy, with all unchanged
+-- refusal 3 comes before any step, to a line that is busy, with all unchanged, whatever its chips have met
 abbrev pub BusyUnchanged : Type 0
 BusyUnchanged =
-    (r : RigState) (x row e n : ℕ) (new : List ℕ) → MetAll r.line → x < 2 ^ 64 → length new ≡ row_length → Bytes new
-    → (order_call x row new r).1 ≡ refuses 3 e n → ((order_call x row new r).0 ≡ r) × (busy r.line ≡ true)
+    (r : RigState) (x row e n : ℕ) (new : List ℕ) → (order_call x row new r).1 ≡ refuses 3 e n → ((order_call x row new r).0 ≡ r) × (busy r.line ≡ true)
 
 -- a held order takes 638 steps, and no order takes more, so its count stays below the limit of 32 bits
 abbrev pub steps_of : Verdict → ℕ

@@ -4,7 +4,7 @@ use Rattle.refusals.specs.Refusals.{number_of as numbered}
 use Rattle.rig.specs.Meaning.{Counting, refusal as rig_refusal}
 use Rattle.rig.specs.declared.fault.RigFault.TheVariants.{LineBusy}
 use Rattle.wire.specs.Jobs.{Ran, done, line_busy, run}
-use Rattle.wire.specs.Exchanges.{pulses, number_of}
+use Rattle.wire.specs.Exchanges.{pulses, number_of, Tallies}
 use Rattle.wire.specs.declared.fault.ExchangeFault.TheVariants.{Rig, Failed}
 use Rattle.wire.specs.declared.fault.Refused.{Refused}
 use Rattle.writing.specs.Writings.{copies}
@@ -48,12 +48,31 @@ RowTaken (Err (InExchange e)) = Unit {0}
 RowTaken (Err (Differs i s)) = Unit {0}
 RowTaken (Err (NotHeld i s)) = Unit {0}
 
+-- the steps that the answer carries are those that the rig has counted
+abbrev pub Counts : Counting → Result (Bool × ℕ) OrderFault → Type 0
+Counts d (Ok a) = a.1 ≡ d.steps
+Counts d (Err BadRow) = Unit {0}
+Counts d (Err (InExchange e)) = Tallies d e
+Counts d (Err (Differs i s)) = s ≡ d.steps
+Counts d (Err (NotHeld i s)) = s ≡ d.steps
+
+-- what the rig has counted after an order: the steps that it answers; one refused before any step leaves the count
+abbrev pub order_count : ℕ → Result (Bool × ℕ) OrderFault → ℕ
+order_count n (Ok a) = a.1
+order_count n (Err BadRow) = n
+order_count n (Err (InExchange (Rig f))) = n
+order_count n (Err (InExchange (Failed why e s))) = s
+order_count n (Err (Differs i s)) = s
+order_count n (Err (NotHeld i s)) = s
+
 -- the last three exchanges of an order led from d to d' and answered r
 pub record Concluded (x row : ℕ) (new : List ℕ) (d d' : Counting) (r : Result (Bool × ℕ) OrderFault) : Type 0 where
   pub so : order_end d' r ≡ run d.steps (pulses (copies x row) (finds_and_closes x row new) failed) d.rig
   pub taken : RowTaken r
+  pub counts : Counts d' r
 
 -- all exchanges of an order did
 pub record Ordered (x row : ℕ) (new : List ℕ) (d d' : Counting) (r : Result (Bool × ℕ) OrderFault) : Type 0 where
   pub so : order_end d' r ≡ run d.steps (ordering x row new) d.rig
   pub taken : RowTaken r
+  pub counts : Counts d' r

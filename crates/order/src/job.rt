@@ -3,7 +3,7 @@ ghost use Rattle.rig.specs.Meaning.{counting, rig_of};
 ghost use Rattle.writing.specs.Differences.{first_difference};
 ghost use Rattle.order.specs.Orders.{order_call};
 ghost use Rattle.order.specs.Laws.{OrderTells, BusyUnchanged, Uncopied, OrderSteps};
-ghost use Rattle.order.specs.Meaning.{judgement, Concluded, Ordered, order_verdict};
+ghost use Rattle.order.specs.Meaning.{judgement, Concluded, Ordered, order_verdict, order_count};
 
 use crate::fault::OrderFault;
 use kind::rows::ROW;
@@ -11,6 +11,7 @@ use line::bus::Line;
 use number::registration::Number;
 use reading::exchanges::{close, find};
 use rig::master::Rig;
+use wire::opening::begin_job;
 use wire::target::Target;
 use writing::differences::first_difference;
 use writing::exchanges::{check, copy, load};
@@ -71,6 +72,7 @@ pub fn order<L: Line>(
     new: &[u8; ROW],
 ) -> Result<(bool, u32), OrderFault>
     ensures told { (rig_of L.chips rig.new, order_verdict result) ≡ order_call number.word row new.now (rig_of L.chips rig.old) }
+    ensures counted { (counting L.chips rig.new).steps ≡ order_count (counting L.chips rig.old).steps result }
     ensures tells { OrderTells }
     ensures unchanged { BusyUnchanged }
     ensures uncopied { Uncopied }
@@ -79,6 +81,6 @@ pub fn order<L: Line>(
     if row % 8 != 0 {
         return Err(OrderFault::BadRow);
     }
-    rig.begin_count();
+    begin_job(rig)?;
     order_steps(rig, Target { number, row }, new)
 }

@@ -1,5 +1,6 @@
 -- The exits of a reading.
-use Rattle.std.proofs.Common.{◌≡◌, ℕ, ◌%◌, Bool, true, false, List, Ok, Err, Result, sym, refl, ap, ◌∙◌, eq-eqb, ne_eqb}
+use Rattle.std.proofs.Common.{◌≡◌, ℕ, ◌%◌, Bool, true, false, List, Ok, Err, Result, sym, refl, ap, ◌∙◌, subst, eq-eqb, ne_eqb}
+use Rattle.line.specs.Lines.{busy}
 use Rattle.rig.specs.Rigs.{RigState}
 use Rattle.rig.specs.Meaning.{Counting}
 use Rattle.rig.specs.declared.fault.RigFault.TheVariants.{LineBusy}
@@ -8,10 +9,14 @@ use Rattle.wire.specs.Exchanges.{Exchange, pulses, Told}
 use Rattle.wire.specs.declared.fault.ExchangeFault.{ExchangeFault}
 use Rattle.wire.specs.declared.fault.ExchangeFault.TheVariants.{Rig, Failed}
 use Rattle.wire.proofs.Follows.{follow, told_run}
+use Rattle.wire.proofs.Tallies.{told_tallies}
+use Rattle.wire.proofs.Power.{first_refused}
+use Rattle.wire.proofs.Calm.{Ended, unrefused_run}
+use Rattle.reading.proofs.Quiet.{unrefused}
 use Rattle.reading.specs.declared.fault.ReadFault.{ReadFault}
 use Rattle.reading.specs.declared.fault.ReadFault.TheVariants.{BadRow, Exchange as InExchange}
 use Rattle.reading.specs.Readings.{asks, finds, closes, failed, reading, read_call}
-use Rattle.reading.specs.Meaning.{read_end, read_report, Read}
+use Rattle.reading.specs.Meaning.{read_end, read_report, read_count, Read}
 
 fails : {A : Type 0} (k : A → Job (Said (List ℕ))) {j : Exchange A} {d d' : Counting} {e : ExchangeFault} → Told j d d' (Err e) → run d.steps (pulses j k failed) d.rig ≡ read_end d' (Err (InExchange e))
 fails k {j} {d} {d'} {e} t = told_run k failed t ∙ exits e
@@ -35,18 +40,18 @@ module _ (x row : ℕ) where
 
   module _ {d0 d1 : Counting} where
     pub end1 : {e : ExchangeFault} → Told (asks x) d0 d1 (Err e) → Read x row d0 d1 (Err (InExchange e))
-    end1 t = record { so = sym (fails from2 t); begun = tt }
+    end1 t = record { so = sym (fails from2 t); begun = tt; counts = told_tallies t }
 
     module _ {d2 : Counting} (t1 : Told (asks x) d0 d1 (Ok tt)) where
       pub end2 : {e : ExchangeFault} → Told (finds 2 x row) d1 d2 (Err e) → Read x row d0 d2 (Err (InExchange e))
-      end2 t = record { so = sym (goes from2 t1 ∙ fails from3 t); begun = tt }
+      end2 t = record { so = sym (goes from2 t1 ∙ fails from3 t); begun = tt; counts = told_tallies t }
 
       module _ {d3 : Counting} {found : List ℕ} (t2 : Told (finds 2 x row) d1 d2 (Ok found)) where
         pub end3 : {e : ExchangeFault} → Told (closes 3) d2 d3 (Err e) → Read x row d0 d3 (Err (InExchange e))
-        end3 t = record { so = sym (goes from2 t1 ∙ goes from3 t2 ∙ fails (from4 found) t); begun = tt }
+        end3 t = record { so = sym (goes from2 t1 ∙ goes from3 t2 ∙ fails (from4 found) t); begun = tt; counts = told_tallies t }
 
         pub ended : Told (closes 3) d2 d3 (Ok tt) → Read x row d0 d3 (Ok (found, d3.steps))
-        ended t = record { so = sym (goes from2 t1 ∙ goes from3 t2 ∙ goes (from4 found) t); begun = tt }
+        ended t = record { so = sym (goes from2 t1 ∙ goes from3 t2 ∙ goes (from4 found) t); begun = tt; counts = refl }
 
   abbrev called_at : Bool → RigState → RigState × Report (List ℕ)
   called_at t r = elim t as (λ _. RigState × Report (List ℕ)) [ false ↦ (r, refused_as 4 0 0) | true ↦ reported (run 0 (reading x row) r) ]
@@ -66,3 +71,13 @@ module _ (x row : ℕ) where
   read_err BadRow l e z o = absurd o.begun
   read_err (InExchange (Rig LineBusy)) l e z o = called e z o
   read_err (InExchange (Failed why n s)) l e z o = called e z o
+
+  -- a line that is busy refuses it at once
+  pub read_busy : (r : RigState) (l : List ℕ) → row % 8 ≡ 0 → busy r.line ≡ true → (r, read_report (Err (InExchange (Rig LineBusy))) l) ≡ read_call x row r
+  read_busy r l e b = sym (ap (λ t. called_at t r) (eq-eqb (row % 8) 0 e) ∙ ap reported (first_refused 0 (reading x row) r tt b))
+
+  -- what the rig has counted then; on a line that was not busy no exchange is refused by the rig
+  pub count_err : {d d' : Counting} (f : ReadFault) (n : ℕ) → busy d.rig.line ≡ false → Read x row d d' (Err f) → d'.steps ≡ read_count n (Err f)
+  count_err BadRow n b o = absurd o.begun
+  count_err {d} (InExchange (Rig LineBusy)) n b o = absurd (subst Ended (sym (ap (λ w. w.got) o.so)) (unrefused_run d.steps (reading x row) d.rig.line d.rig.fuse (unrefused x row d.rig.line b)))
+  count_err (InExchange (Failed why e s)) n b o = sym o.counts

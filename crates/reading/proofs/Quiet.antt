@@ -1,22 +1,19 @@
 -- A reading is refused with 3 at its first pulse or never, and changes no byte.
-use Rattle.std.proofs.Common.{◌≡◌, ℕ, ◌/◌, ◌%◌, ◌^◌, ◌<◌, Bool, true, false, cond, eqb, List, [], ◌∷◌, map, sym, refl, ap, subst, arith}
+use Rattle.std.proofs.Common.{◌≡◌, ℕ, ◌/◌, ◌%◌, Bool, true, false, cond, eqb, List, [], ◌∷◌, map, sym, refl, ap, subst, arith}
 use Rattle.bits.specs.Bits.{bits_of, bits_all}
-use Rattle.chip.specs.Steps.{ChipState, bytes_of, reset_chip, takes, opened_by}
+use Rattle.chip.specs.Steps.{ChipState, bytes_of, reset_chip, takes}
 use Rattle.bits.proofs.Choice.{pick}
-use Rattle.chip.specs.Histories.{MetAll}
-use Rattle.chip.proofs.Sound.{met_sounds}
 use Rattle.line.specs.Lines.{presence, busy}
 use Rattle.rig.specs.Rigs.{RigState}
 use Rattle.wire.specs.Jobs.{Job, ret, Got, done, line_busy, run, Said, good, bad, Report, refused_as, report_of, reported, send_bits, send_bytes, read_bytes}
 use Rattle.wire.specs.Exchanges.{answer, refuse, pulses}
 use Rattle.wire.specs.declared.fault.Why.{Why}
 use Rattle.wire.specs.declared.fault.Why.TheVariants.{NoPresence, Garbled}
-use Rattle.wire.proofs.Leading.{WideAll, send-append}
+use Rattle.wire.proofs.Leading.{send-append}
 use Rattle.wire.proofs.Power.{first_refused}
-use Rattle.wire.proofs.Calm.{NotThree, Still, Leaves, GotAll, leaves, leaves_run, NoDwell, no_dwell, bytes_run, Unrefused, Ended, unrefused_run, unrefused_opening, command_hears, command_calm, CalmAll, calm_busy, calm_wide, calm_send, calm_bytes, heard_send}
-use Rattle.wire.proofs.Selected.{sound_wide}
-use Rattle.reading.specs.Readings.{all_ones, asks, finds, closes, failed, reading, read_call}
-use Rattle.reading.specs.Laws.{BusyUnchanged, BusyRefused, BytesStay}
+use Rattle.wire.proofs.Calm.{NotThree, Still, Leaves, GotAll, leaves, leaves_run, NoDwell, no_dwell, bytes_run, Unrefused, Ended, unrefused_run, unrefused_opening, command_hears, command_calm, CalmAll, calm_busy, calm_send, calm_bytes, heard_send}
+use Rattle.reading.specs.Readings.{all_ones, asks, finds, closes, failed, reading}
+use Rattle.reading.specs.Laws.{BusyUnchanged, BytesStay}
 use Rattle.reading.proofs.Parts.{closed, judged, found, asked}
 
 -- its closing has no dwell
@@ -43,30 +40,29 @@ un_close e k fails uk ub l h = (calm_busy l h, go (presence l))
     go true = uk (map reset_chip l)
     go false = ub (map reset_chip l)
 
-module _ (x row : ℕ) (hx : x < 2 ^ 64) where
+module _ (x row : ℕ) where
   -- F0h, the address and the row, on a line that is not busy
   pub un_find : {B : Type 0} (e : ℕ) (k : List ℕ → Job B) (fails : Why → ℕ → Job B) → ((xs : List ℕ) (l : List ChipState) → CalmAll l → Unrefused (k xs) l)
-      → ((l : List ChipState) → Unrefused (fails NoPresence e) l) → (l : List ChipState) → WideAll l → busy l ≡ false → Unrefused (pulses (finds e x row) k fails) l
-  un_find e k fails uk ub l w b =
-      unrefused_opening x (send_bytes (0xF0 ∷ row % 256 ∷ row / 256 ∷ []) (read_bytes 8 k)) (fails NoPresence e) l hx w b ub
-      (subst (λ j. Unrefused j (map (opened_by x) l)) (sym (send-append (bits_of 8 0xF0) (bits_all (row % 256 ∷ row / 256 ∷ [])) (read_bytes 8 k)))
-      (heard_send (bits_of 8 0xF0) (send_bits (bits_all (row % 256 ∷ row / 256 ∷ [])) (read_bytes 8 k)) (map (opened_by x) l) (command_hears 0xF0 x l)
-      (calm_send (bits_all (row % 256 ∷ row / 256 ∷ [])) (read_bytes 8 k) (map (takes (bits_of 8 0xF0)) (map (opened_by x) l)) (command_calm 0xF0 (λ K m r. tt) x l w)
-      (λ l' h. calm_bytes 8 k l' h uk))))
+      → ((l : List ChipState) → Unrefused (fails NoPresence e) l) → (l : List ChipState) → busy l ≡ false → Unrefused (pulses (finds e x row) k fails) l
+  un_find e k fails uk ub l b =
+      unrefused_opening x (send_bytes (0xF0 ∷ row % 256 ∷ row / 256 ∷ []) (read_bytes 8 k)) (fails NoPresence e) l b ub
+      (λ l' o. subst (λ j. Unrefused j l') (sym (send-append (bits_of 8 0xF0) (bits_all (row % 256 ∷ row / 256 ∷ [])) (read_bytes 8 k)))
+      (heard_send (bits_of 8 0xF0) (send_bits (bits_all (row % 256 ∷ row / 256 ∷ [])) (read_bytes 8 k)) l' (command_hears 0xF0 l' o)
+      (calm_send (bits_all (row % 256 ∷ row / 256 ∷ [])) (read_bytes 8 k) (map (takes (bits_of 8 0xF0)) l') (command_calm 0xF0 (λ K m r. tt) l' o)
+      (λ l'' h. calm_bytes 8 k l'' h uk))))
 
   un_asked : (got : List ℕ) (l : List ChipState) → CalmAll l → Unrefused (asked x row got) l
   un_asked got l h = go (all_ones got)
     where
       go : (t : Bool) → Unrefused (pulses (judged t) (found x row) failed) l
       go true = tt
-      go false =
-          un_find 2 closed failed (λ xs. un_close 3 (λ _. ret (good xs)) failed (λ _. tt) (λ _. tt)) (λ _. tt) l (calm_wide l h) (calm_busy l h)
+      go false = un_find 2 closed failed (λ xs. un_close 3 (λ _. ret (good xs)) failed (λ _. tt) (λ _. tt)) (λ _. tt) l (calm_busy l h)
 
-  pub unrefused : (l : List ChipState) → WideAll l → busy l ≡ false → Unrefused (reading x row) l
-  unrefused l w e =
-      unrefused_opening x (send_bytes (0xAA ∷ []) (read_bytes 3 (asked x row))) (failed NoPresence 1) l hx w e (λ _. tt)
-      (heard_send (bits_of 8 0xAA) (read_bytes 3 (asked x row)) (map (opened_by x) l) (command_hears 0xAA x l)
-      (calm_bytes 3 (asked x row) (map (takes (bits_of 8 0xAA)) (map (opened_by x) l)) (command_calm 0xAA (λ K m r. tt) x l w) un_asked))
+  pub unrefused : (l : List ChipState) → busy l ≡ false → Unrefused (reading x row) l
+  unrefused l e =
+      unrefused_opening x (send_bytes (0xAA ∷ []) (read_bytes 3 (asked x row))) (failed NoPresence 1) l e (λ _. tt)
+      (λ l' o. heard_send (bits_of 8 0xAA) (read_bytes 3 (asked x row)) l' (command_hears 0xAA l' o)
+      (calm_bytes 3 (asked x row) (map (takes (bits_of 8 0xAA)) l') (command_calm 0xAA (λ K m r. tt) l' o) un_asked))
 
 -- no answer of a reading has the number 3
 failed_not : (w : Why) (e : ℕ) → Leaves NotThree (failed {A = List ℕ} w e)
@@ -79,15 +75,13 @@ never_three x row =
     (λ _. leaves NotThree closed failed (λ xs. leaves NotThree (λ _. ret (good xs)) failed (λ _. tt) failed_not (closes 3)) failed_not (finds 2 x row))
     failed_not (asks x)
 
-three_first : (r : RigState) (x row e steps : ℕ) → MetAll r.line → x < 2 ^ 64 → (read_call x row r).1 ≡ refused_as 3 e steps → ((read_call x row r).0 ≡ r) × (busy r.line ≡ true)
-three_first r x row e steps m hx q = go (eqb (row % 8) 0) q
+-- refusal 3 comes first, on whatever line
+pub busy_unchanged : BusyUnchanged
+busy_unchanged r x row e steps q = go (eqb (row % 8) 0) q
   where
-    wide : WideAll r.line
-    wide = sound_wide r.line (met_sounds r.line m)
-
     begun : (t : Bool) → busy r.line ≡ t → (run 0 (reading x row) r).got ≡ line_busy → ((run 0 (reading x row) r).rig ≡ r) × (busy r.line ≡ true)
     begun true b g = (ap (λ w. w.rig) (first_refused 0 (reading x row) r tt b), b)
-    begun false b g = absurd (subst Ended g (unrefused_run 0 (reading x row) r.line r.fuse (unrefused x row hx r.line wide b)))
+    begun false b g = absurd (subst Ended g (unrefused_run 0 (reading x row) r.line r.fuse (unrefused x row r.line b)))
 
     said : (g : Got (Said (List ℕ))) (n : ℕ) → GotAll NotThree g → report_of g n ≡ refused_as 3 e steps → g ≡ line_busy
     said (done (good a)) n h q = let z : ◌≡◌ {A = ℕ} 0 1 = cc in absurd (omega arith)
@@ -99,9 +93,3 @@ three_first r x row e steps m hx q = go (eqb (row % 8) 0) q
     go true q =
         begun (busy r.line) refl (said (run 0 (reading x row) r).got (run 0 (reading x row) r).steps (leaves_run NotThree 0 (reading x row) r (never_three x row)) q)
     go false q = let z : ◌≡◌ {A = ℕ} 3 4 = cc in absurd (omega arith)
-
-pub busy_unchanged : BusyUnchanged
-busy_unchanged r x row e steps m hx q = (three_first r x row e steps m hx q).0
-
-pub busy-refused : BusyRefused
-busy-refused r x row e steps m hx q = (three_first r x row e steps m hx q).1

@@ -26,15 +26,10 @@ ReadingTells =
     (r : RigState) (x row : ℕ) → MetAll r.line → x < 2 ^ 64 → row % row_length ≡ 0 → row < 65536 → busy r.line ≡ false
     → (s : Single x r.line) → Tells x row r s
 
--- refusal 3 comes before any step, with all unchanged
+-- refusal 3 comes before any step, to a line that is busy, with all unchanged, whatever its chips have met
 abbrev pub BusyUnchanged : Type 0
 BusyUnchanged =
-    (r : RigState) (x row e steps : ℕ) → MetAll r.line → x < 2 ^ 64 → (read_call x row r).1 ≡ refused_as 3 e steps → (read_call x row r).0 ≡ r
-
--- and to a line that is busy
-abbrev pub BusyRefused : Type 0
-BusyRefused =
-    (r : RigState) (x row e steps : ℕ) → MetAll r.line → x < 2 ^ 64 → (read_call x row r).1 ≡ refused_as 3 e steps → busy r.line ≡ true
+    (r : RigState) (x row e steps : ℕ) → (read_call x row r).1 ≡ refused_as 3 e steps → ((read_call x row r).0 ≡ r) × (busy r.line ≡ true)
 
 -- a reading changes no tag's bytes
 abbrev pub BytesStay : Type 0

@@ -3,7 +3,7 @@ use Rattle.std.specs.Prelude.{◌≡◌, ℕ, List, Ok, Err, Result}
 use Rattle.rig.specs.Meaning.{Counting}
 use Rattle.rig.specs.declared.fault.RigFault.TheVariants.{LineBusy}
 use Rattle.wire.specs.Jobs.{Ran, done, line_busy, run, Said, good, bad, Report, answered, refused_as}
-use Rattle.wire.specs.Exchanges.{number_of, fault_report}
+use Rattle.wire.specs.Exchanges.{number_of, fault_report, Tallies}
 use Rattle.wire.specs.declared.fault.ExchangeFault.TheVariants.{Rig, Failed}
 use Rattle.reading.specs.Readings.{reading}
 use Rattle.reading.specs.declared.fault.ReadFault.{ReadFault}
@@ -27,7 +27,21 @@ Begun (Ok a) = Unit {0}
 Begun (Err BadRow) = ⊥
 Begun (Err (InExchange e)) = Unit {0}
 
+-- the steps that the exchanges answer are those that the rig has counted
+abbrev pub Counts : Counting → Result (List ℕ × ℕ) ReadFault → Type 0
+Counts d (Ok a) = a.1 ≡ d.steps
+Counts d (Err BadRow) = Unit {0}
+Counts d (Err (InExchange e)) = Tallies d e
+
+-- what the rig has counted after a reading: the steps that it answers; one refused before any step leaves the count
+abbrev pub read_count : ℕ → Result ℕ ReadFault → ℕ
+read_count n (Ok s) = s
+read_count n (Err BadRow) = n
+read_count n (Err (InExchange (Rig f))) = n
+read_count n (Err (InExchange (Failed why e s))) = s
+
 -- the exchanges of a reading led from d to d' and answered r
 pub record Read (x row : ℕ) (d d' : Counting) (r : Result (List ℕ × ℕ) ReadFault) : Type 0 where
   pub so : read_end d' r ≡ run d.steps (reading x row) d.rig
   pub begun : Begun r
+  pub counts : Counts d' r

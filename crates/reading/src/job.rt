@@ -3,8 +3,8 @@ ghost use Rattle.chip.specs.Steps.{bytes_of};
 ghost use Rattle.rig.specs.Meaning.{counting, rig_of};
 ghost use Rattle.wire.specs.Selection.{LineLaws};
 ghost use Rattle.reading.specs.Readings.{read_call};
-ghost use Rattle.reading.specs.Laws.{ReadingTells, BusyUnchanged, BusyRefused, ReadingSteps};
-ghost use Rattle.reading.specs.Meaning.{Read, read_report};
+ghost use Rattle.reading.specs.Laws.{ReadingTells, BusyUnchanged, ReadingSteps};
+ghost use Rattle.reading.specs.Meaning.{Read, read_report, read_count};
 
 use crate::exchanges::{ask, close, find};
 use crate::fault::ReadFault;
@@ -12,6 +12,7 @@ use kind::rows::ROW;
 use line::bus::Line;
 use number::registration::Number;
 use rig::master::Rig;
+use wire::opening::begin_job;
 use wire::target::Target;
 
 fn read_steps<L: Line>(rig: &mut Rig<L>, target: Target) -> Result<([u8; ROW], u32), ReadFault>
@@ -23,8 +24,8 @@ fn read_steps<L: Line>(rig: &mut Rig<L>, target: Target) -> Result<([u8; ROW], u
     Ok((found, rig.steps()))
 }
 
-// Number and row apart, as a master asks them; a target inside.
 // Reads a row into the caller's, which stays as it is unless the reading succeeds; answers the steps made.
+// Number and row apart, as a master asks them; a target inside.
 pub fn read_row<L: Line>(
     rig: &mut Rig<L>,
     number: Number,
@@ -32,18 +33,18 @@ pub fn read_row<L: Line>(
     into: &mut [u8; ROW],
 ) -> Result<u32, ReadFault>
     ensures told { (rig_of L.chips rig.new, read_report result into.new) ≡ read_call number.word row (rig_of L.chips rig.old) }
+    ensures counted { (counting L.chips rig.new).steps ≡ read_count (counting L.chips rig.old).steps result }
     ensures kept { is_err result ≡ true → into.new ≡ into.old }
     ensures bytes { map bytes_of (L.chips rig.new.line) ≡ map bytes_of (L.chips rig.old.line) }
     ensures tells { ReadingTells }
     ensures unchanged { BusyUnchanged }
-    ensures busy { BusyRefused }
     ensures steps { ReadingSteps }
     ensures lines { LineLaws }
 {
     if row % 8 != 0 {
         return Err(ReadFault::BadRow);
     }
-    rig.begin_count();
+    begin_job(rig)?;
     let (found, steps) = read_steps(rig, Target { number, row })?;
     *into = found;
     Ok(steps)

@@ -1,6 +1,7 @@
 -- What a rig of the code means, with the steps that it has counted.
-use Rattle.std.specs.Prelude.{ℕ, ◌-◌, Bool, true, false, cond, List, map, Some, None, Ok, Err, Option, Result, ◌==◌}
+use Rattle.std.specs.Prelude.{◌≡◌, ℕ, ◌-◌, Bool, true, false, cond, List, map, Some, None, Ok, Err, Option, Result, ◌==◌}
 use Rattle.chip.specs.Steps.{ChipState, cut_chip}
+use Rattle.line.specs.Lines.{busy}
 use Rattle.rig.specs.Rigs.{RigState, FuseState, none, after, Pulse, pulse, refused, counted}
 use Rattle.rig.specs.declared.fault.RigFault.{RigFault}
 use Rattle.rig.specs.declared.fault.RigFault.TheVariants.{LineBusy}
@@ -33,6 +34,11 @@ beat p d =
       | true ↦ (d, Err LineBusy)
       | false ↦ (record { rig = (pulse p d.rig).0; steps = counted d.steps }, Ok (pulse p d.rig).1)
     ]
+
+-- a job begins, its steps counted from 0, unless the line is busy
+abbrev pub Began : Counting → Counting → Result (Unit {0}) RigFault → Type 0
+Began d d' (Ok u) = (busy d.rig.line ≡ false) × (d' ≡ record { rig = d.rig; steps = 0 })
+Began d d' (Err f) = (busy d.rig.line ≡ true) × (d' ≡ d)
 
 -- whether a step becomes a cut
 abbrev pub blows : Option Fuse → Bool

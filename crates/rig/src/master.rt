@@ -1,7 +1,7 @@
 ghost use Rattle.std.specs.Prelude.{◌≡◌, true, false};
 ghost use Rattle.std.specs.Fn.{FnOnceReturnsAtMut};
 ghost use Rattle.rig.specs.Rigs.{resets, slots, dwells, pulse, made_rig, cut_rig, power_rig, set_fuse, counted};
-ghost use Rattle.rig.specs.Meaning.{rig_of, counting, beat, blows, lowered, cut_by};
+ghost use Rattle.rig.specs.Meaning.{rig_of, counting, Began, beat, blows, lowered, cut_by};
 
 use crate::fault::RigFault;
 use chip::step::Step;
@@ -46,6 +46,17 @@ impl<L: Line> Rig<L> {
         ensures { counting L.chips self.new ≡ record { rig = rig_of L.chips self.old; steps = 0 } }
     {
         self.steps = 0;
+    }
+
+    // A job begins, its steps counted from 0; refusal 3 while the line is busy, with all unchanged.
+    pub fn begin_job(&mut self) -> Result<(), RigFault>
+        ensures { Began (counting L.chips self.old) (counting L.chips self.new) result }
+    {
+        if self.line.busy() {
+            return Err(RigFault::LineBusy);
+        }
+        self.begin_count();
+        Ok(())
     }
 
     pub fn power_up(&mut self)

@@ -1,5 +1,6 @@
-ghost use Rattle.std.specs.Prelude.{◌≡◌, map, IfOk};
+ghost use Rattle.std.specs.Prelude.{◌≡◌, map, IsOkAnd};
 ghost use Rattle.std.specs.List.{range_with_len};
+ghost use Rattle.number.specs.Numbers.{Checked};
 ghost use Rattle.samples.specs.Plugs.{plug_word, plug_chip, chip_of};
 
 use crate::fault::SampleFault;
@@ -18,7 +19,8 @@ pub const MANY: usize = 65;
 const FAMILY: u8 = 0x2D;
 
 fn word_of(serial: u8) -> u64
-    ensures { result ≡ plug_word serial }
+    ensures value { result ≡ plug_word serial }
+    ensures lawful { Checked result }
 {
     let sum = crc8(&[FAMILY, serial, 0, 0, 0, 0, 0]);
     u64::from_le_bytes([FAMILY, serial, 0, 0, 0, 0, 0, sum])
@@ -26,14 +28,14 @@ fn word_of(serial: u8) -> u64
 
 // The plug with a serial number, without power; its bytes are all 00h.
 pub fn plug(serial: u8) -> Result<Plug, SampleFault>
-    ensures { IfOk result (λ t. chip_of t ≡ plug_chip serial) }
+    ensures { IsOkAnd result (λ t. chip_of t ≡ plug_chip serial) }
 {
     tag_of(word_of(serial), &[0; 64])
 }
 
 // Plugs with consecutive serial numbers from 0 on.
 pub fn many_plugs() -> Result<Many<Plug, MANY>, SampleFault>
-    ensures { IfOk result (λ m. map chip_of m.lines ≡ map plug_chip (range_with_len 0 65)) }
+    ensures { IsOkAnd result (λ m. map chip_of m.lines ≡ map plug_chip (range_with_len 0 65)) }
 {
     // The remainder shows that an index is a byte.
     let plugs = array::try_from_fn(|i| plug((i % 256) as u8))?;

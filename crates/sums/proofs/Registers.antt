@@ -1,5 +1,5 @@
 -- Laws of the shift register.
-use Rattle.std.proofs.Common.{append-nil, ◌≡◌, ℕ, zero, suc, ◌/◌, ◌^◌, ◌<◌, Bool, true, false, List, [], ◌∷◌, ◌++◌, sym, refl, ap, ◌∙◌, arith}
+use Rattle.std.proofs.Common.{◌≡◌, ℕ, zero, suc, ◌/◌, ◌^◌, ◌<◌, Bool, true, false, List, [], ◌∷◌, ◌++◌, sym, refl, ap, ◌∙◌, arith}
 use lib.Bits.{bit_xor, xor_lt}
 use Rattle.bits.specs.Bits.{odd, bits_of, bits_all, differ}
 use Rattle.bits.proofs.Queues.{two_bytes, bytes_append, double}
@@ -9,13 +9,6 @@ use Rattle.sums.specs.Sums.{poly8, poly16, shift, crc_bits, crc8, crc16, low_hig
 pub crc_append : (p c : ℕ) (xs ys : List Bool) → crc_bits p c (xs ++ ys) ≡ crc_bits p (crc_bits p c xs) ys
 crc_append p c [] ys = refl
 crc_append p c (x ∷ xs) ys = crc_append p (shift p c x) xs ys
-
--- one byte more after some
-pub byte_after : (p c : ℕ) (ys : List ℕ) (x : ℕ) → crc_bits p c (bits_all (ys ++ (x ∷ []))) ≡ crc_bits p (crc_bits p c (bits_all ys)) (bits_of 8 x)
-byte_after p c ys x =
-    ap (crc_bits p c) (bytes_append ys (x ∷ []))
-    ∙ crc_append p c (bits_all ys) (bits_all (x ∷ []))
-    ∙ ap (crc_bits p (crc_bits p c (bits_all ys))) (append-nil (bits_of 8 x))
 
 -- a register no wider than the polynomial stays so
 shift_small : (k p c : ℕ) (b : Bool) → p < 2 ^ k → c < 2 ^ k → shift p c b < 2 ^ k

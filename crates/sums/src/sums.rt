@@ -36,9 +36,11 @@ fn add_byte(poly: u16, sum: u16, byte: u8) -> u16
 fn add_bytes(poly: u16, sum: u16, bytes: &[u8]) -> u16
     ensures { result ≡ crc_bits poly sum (bits_all bytes.now) }
 {
-    bytes
-        .iter()
-        .fold(sum, |sum, byte| add_byte(poly, sum, *byte))
+    let mut state = sum;
+    for byte in bytes {
+        state = add_byte(poly, state, *byte);
+    }
+    state
 }
 
 // The CRC-8 of some bytes; with it behind them the sum is 0.

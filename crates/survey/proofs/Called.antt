@@ -1,6 +1,8 @@
 -- The public survey against the model's call.
-use Rattle.std.proofs.Common.{◌≡◌, ℕ, Bool, true, false, List, [], Ok, Err, Result, sym, refl, ap, ◌∙◌, eq-eqb, ne_eqb}
+use Rattle.std.proofs.Common.{◌≡◌, ℕ, Bool, true, false, List, [], Ok, Err, Result, sym, refl, ap, ◌∙◌, subst, eq-eqb, ne_eqb}
+use Rattle.line.specs.Lines.{busy}
 use Rattle.rig.specs.Rigs.{RigState}
+use Rattle.wire.proofs.Calm.{Ended, unrefused_run}
 use Rattle.wire.specs.Jobs.{Ran, run, Report, refused_as}
 use Rattle.wire.specs.Jobs.{Said}
 use Rattle.survey.specs.Surveys.{passes, room_of, listed, survey_call}
@@ -9,7 +11,8 @@ use Rattle.rig.specs.declared.fault.RigFault.TheVariants.{LineBusy}
 use Rattle.wire.specs.declared.fault.ExchangeFault.TheVariants.{Rig, Failed}
 use Rattle.survey.specs.declared.fault.SurveyFault.{SurveyFault}
 use Rattle.survey.specs.declared.fault.SurveyFault.TheVariants.{NoPlace, Full, Exchange as InExchange}
-use Rattle.survey.specs.Listing.{Surveyed, Begun, survey_end, survey_answer}
+use Rattle.survey.specs.Listing.{Surveyed, Begun, survey_end, survey_answer, survey_count}
+use Rattle.survey.proofs.Unrefused.{unrefused_passes}
 
 abbrev pub told : Ran (Said ℕ × List ℕ) → RigState × (Report ℕ × List ℕ)
 told w = (w.rig, listed w.got w.steps)
@@ -36,3 +39,12 @@ survey_called count room d d' l l' r n e z o =
 -- with a place it is the run of its passes
 pub surveyed : (count : ℕ) (r : RigState) → (count ≡ 0 → ⊥) → survey_call count r ≡ told (run 0 (passes (room_of count) 1 [] []) r)
 surveyed count r n = ap (λ t. called_at t count r) (ne_eqb count 0 n)
+
+-- what the rig has counted then; on a line that was not busy no pass is refused by the rig
+pub counted_after : {room : ℕ} {d d' : Counting} {l l' : List ℕ} (r : Result (ℕ × ℕ) SurveyFault) (n : ℕ) → busy d.rig.line ≡ false → Surveyed room d d' l l' r → d'.steps ≡ survey_count n r
+counted_after (Ok a) n b o = sym o.counts
+counted_after (Err NoPlace) n b o = absurd o.begun
+counted_after (Err (Full p s)) n b o = sym o.counts
+counted_after {room} {d} (Err (InExchange (Rig LineBusy))) n b o =
+    absurd (subst Ended (sym (ap (λ w. w.got) o.so)) (unrefused_run d.steps (passes room 1 [] []) d.rig.line d.rig.fuse (unrefused_passes room 1 [] [] d.rig.line b)))
+counted_after (Err (InExchange (Failed why e s))) n b o = sym o.counts

@@ -25,6 +25,7 @@ use Rattle.survey.proofs.Words.{passed}
 use Rattle.survey.specs.Listing.{Surveyed}
 use Rattle.survey.proofs.Walking.{Fits, fits_more}
 use Rattle.survey.proofs.Complete.{Out, going}
+use Rattle.survey.proofs.Unrefused.{busy_first}
 
 module _ {B : Type 0} (lost : Job B) (K : Option Pass → Job B) (h0 : K None ≡ lost) where
   forked : (s t : Bool) (q : Job (Option Pass)) (q' : Job B) → bind q K ≡ q'
@@ -145,32 +146,32 @@ module _ (n e w : ℕ) (found : List ℕ) where
           ∙ on_past (does (sends (0xF0 ∷ [])) s).0 (does (sends (0xF0 ∷ [])) s).1 (λ _ s. run s.steps (bind (walks w) (onto n e found)) s.rig) (λ _ s. onward_by Rig (does (walks w) s) (λ o s. walk_told e o s))
           (λ _ s. run_part (walks w) (onto n e found) s ∙ on_past (does (walks w) s).0 (does (walks w) s).1 (λ o s. run s.steps (onto n e found o) s.rig) (λ o s. walk_told e o s) last)
 
--- a fault of a pass carries the pass's number
-abbrev Numbered : ℕ → Result Pass ExchangeFault → Type 0
-Numbered e (Ok p) = Unit {0}
-Numbered e (Err (Rig x)) = Unit {0}
-Numbered e (Err (Failed why x s)) = x ≡ e
+-- a fault of a pass carries the pass's number, and the steps that the rig has counted
+abbrev Numbered : ℕ → Counting × Result Pass ExchangeFault → Type 0
+Numbered e (d, Ok p) = Unit {0}
+Numbered e (d, Err (Rig x)) = Unit {0}
+Numbered e (d, Err (Failed why x s)) = (x ≡ e) × (s ≡ d.steps)
 
-numbered : (w e : ℕ) (d : Counting) → Numbered e (pass_told w e d).1
-numbered w e d = subst (λ t. Numbered e t.1) (sym (pass_as w e d)) (first (beat resets d).0 (beat resets d).1)
+numbered : (w e : ℕ) (d : Counting) → Numbered e (pass_told w e d)
+numbered w e d = subst (Numbered e) (sym (pass_as w e d)) (first (beat resets d).0 (beat resets d).1)
   where
-    last : (o : Option Pass) (s : Counting) → Numbered e (walk_told e o s).1
-    last None s = refl
+    last : (o : Option Pass) (s : Counting) → Numbered e (walk_told e o s)
+    last None s = (refl, refl)
     last (Some p) s = tt
 
-    third : (s : Counting) (r : Result (Option Pass) RigFault) → Numbered e (onwards Rig s r (λ o s. walk_told e o s)).1
+    third : (s : Counting) (r : Result (Option Pass) RigFault) → Numbered e (onwards Rig s r (λ o s. walk_told e o s))
     third s (Ok o) = last o s
     third s (Err x) = tt
 
-    second : (s : Counting) (r : Result (Unit {0}) RigFault) → Numbered e (onwards Rig s r (λ _ s. onward_by Rig (does (walks w) s) (λ o s. walk_told e o s))).1
+    second : (s : Counting) (r : Result (Unit {0}) RigFault) → Numbered e (onwards Rig s r (λ _ s. onward_by Rig (does (walks w) s) (λ o s. walk_told e o s)))
     second s (Ok u) = third (does (walks w) s).0 (does (walks w) s).1
     second s (Err x) = tt
 
-    opened : (b : Bool) (s : Counting) → Numbered e (reset w e b s).1
+    opened : (b : Bool) (s : Counting) → Numbered e (reset w e b s)
     opened true s = second (does (sends (0xF0 ∷ [])) s).0 (does (sends (0xF0 ∷ [])) s).1
-    opened false s = refl
+    opened false s = (refl, refl)
 
-    first : (s : Counting) (r : Result Bool RigFault) → Numbered e (onwards Rig s r (λ b s. reset w e b s)).1
+    first : (s : Counting) (r : Result Bool RigFault) → Numbered e (onwards Rig s r (λ b s. reset w e b s))
     first s (Ok b) = opened b s
     first s (Err x) = tt
 
@@ -218,17 +219,20 @@ module _ (room : ℕ) (d0 : Counting) (i n w : ℕ) (d : Counting) (l l0 : List 
           ∙ sym (passed_by e ∙ ap (λ o. run d'.steps (after n (i + 1) (take i l ++ (p.number ∷ [])) o) d'.rig) h);
       later = later_more k;
       begun = tt;
+      counts = z;
     }
 
   pub left_fails : {d' : Counting} (f : ExchangeFault) → (d', Err f) ≡ pass_told w (i + 1) d → drop i l ≡ drop i l0 → Untouched d0 d l0 l → Surveyed room d0 d' l0 l (Err (InExchange f))
-  left_fails (Rig LineBusy) e k u = record { so = sym (passed_by e); later = λ b. (u b).1; begun = tt }
+  left_fails (Rig LineBusy) e k u = record { so = sym (passed_by e); later = (u (busy_first d0.steps room 1 [] [] d0.rig (ap (λ t. t.got) (passed_by e)))).1; begun = tt; counts = tt }
   left_fails {d'} (Failed why x s) e k u =
-      let num : x ≡ i + 1 = subst (λ t. Numbered (i + 1) t.1) (sym e) (numbered w (i + 1) d) in
+      let own : (x ≡ i + 1) × (s ≡ d'.steps) = subst (Numbered (i + 1)) (sym e) (numbered w (i + 1) d) in
+      let num : x ≡ i + 1 = own.0 in
       let back : x - 1 ≡ i = omega arith in
       record {
         so = ap (λ j. record { rig = d'.rig; steps = s; got = done (bad (number_of why) x, take j l) }) back ∙ sym (passed_by e);
         later = subst (λ j. drop j l ≡ drop j l0) (sym back) k;
         begun = tt;
+        counts = own.1;
       }
 
 pub left_full : (room : ℕ) (d0 : Counting) (i w : ℕ) (d : Counting) (l l0 : List ℕ) (s : ℕ) → i ≡ room → s ≡ d.steps → Left room d0 i d w l 0 → drop i l ≡ drop i l0 → Surveyed room d0 d l0 l (Err (Full room s))
@@ -237,4 +241,5 @@ left_full room d0 i w d l l0 s e z inv k = record {
       ∙ ap (λ j. record { rig = d.rig; steps = d.steps; got = done (bad 9 j, take i l) }) (let q : i ≡ i + 1 - 1 = omega arith in q) ∙ inv;
   later = subst (λ j. drop j l ≡ drop j l0) e k;
   begun = tt;
+  counts = z;
 }

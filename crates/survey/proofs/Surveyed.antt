@@ -15,7 +15,7 @@ use Rattle.wire.proofs.Power.{on_step}
 use Rattle.wire.proofs.Calm.{NoDwell, bytes_run, no_send, GotAll, leaves_run}
 use Rattle.wire.proofs.Cuts.{CutSafe, GotIt, safe_run, uncut_free}
 use Rattle.survey.specs.Surveys.{Next, over, way, onward, tail_of, chosen, triples, passes, most_places, room_of, listed, survey_call}
-use Rattle.survey.specs.Laws.{numbers_on, In, Before, BeforeEach, Ordered, Sequence, Front, Lists, SurveyComplete, BusyUnchanged, BusyAlways, BytesStay}
+use Rattle.survey.specs.Laws.{numbers_on, In, Before, BeforeEach, Ordered, Sequence, Front, Lists, SurveyComplete, BusyUnchanged, BytesStay}
 use Rattle.survey.proofs.Called.{told, surveyed}
 use Rattle.survey.proofs.Enumerate.{Rests, is_nil, enum_none, from, after, next, some-way, pass_law, Uniform, Valid}
 use Rattle.survey.proofs.Seekers.{here, Determined}
@@ -252,15 +252,19 @@ busy-run : (room : ℕ) (k : (k : ℕ) × (room ≡ suc k)) (r : RigState) → b
 busy-run room k r b =
     ap (λ j. told (run 0 (passes j 1 [] []) r)) k.1 ∙ ap (λ t. told (on_step 0 resets (after_reset k.0 1 [] []) r t)) b
 
-pub busy_always : BusyAlways
-busy_always r places e steps found q = go (cases_le places 0)
+-- a line that is busy refuses it at once
+pub survey_busy : (places : ℕ) (r : RigState) → (places ≡ 0 → ⊥) → busy r.line ≡ true → ◌≡◌ {A = Answer} (r, (refused_as 3 0 0, [])) (survey_call places r)
+survey_busy places r n b = sym (surveyed places r n ∙ busy-run (room_of places) (room_some places n) r b)
+
+pub busy_unchanged : BusyUnchanged
+busy_unchanged r places e steps found q = go (cases_le places 0)
   where
     job : Job Out
     job = passes (room_of places) 1 [] []
 
     begun : (n : places ≡ 0 → ⊥) → busy r.line ≡ true → ((survey_call places r).0 ≡ r) × (busy r.line ≡ true) × (found ≡ [])
     begun n b =
-        let w : ◌≡◌ {A = Answer} (survey_call places r) (r, (refused_as 3 0 0, [])) = surveyed places r n ∙ busy-run (room_of places) (room_some places n) r b in
+        let w : ◌≡◌ {A = Answer} (survey_call places r) (r, (refused_as 3 0 0, [])) = sym (survey_busy places r n b) in
         (ap (λ (a : Answer). a.0) w, b, ap (λ (p : Report ℕ × List ℕ). p.1) (sym q) ∙ ap (λ (a : Answer). a.1.1) w)
 
     met : (n : places ≡ 0 → ⊥) → (run 0 job r).got ≡ line_busy
@@ -276,9 +280,6 @@ busy_always r places e steps found q = go (cases_le places 0)
         let w : ◌≡◌ {A = ℕ} 9 3 = cc in absurd (omega arith)
     go (inr h) =
         let n : places ≡ 0 → ⊥ = λ z. omega arith in begun n (busy_first 0 (room_of places) 1 [] [] r (met n))
-
-pub busy_unchanged : BusyUnchanged
-busy_unchanged r places e steps found m q = busy_always r places e steps found q
 
 -- no byte changes
 no_triples : {A : Type 0} (lost : Job A) → NoDwell lost → (n : ℕ) (path : List Bool) (k : List Bool → Next → Job A) → ((bs : List Bool) (nx : Next) → NoDwell (k bs nx)) → NoDwell (triples lost n path k)

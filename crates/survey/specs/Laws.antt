@@ -65,15 +65,9 @@ SurveyComplete =
     (r : RigState) (places : ℕ) → MetAll r.line → (places ≢ 0) → busy r.line ≡ false
     → (xs : List ℕ) × Sequence r.line xs × Lists places r xs
 
--- refusal 3 comes before any step, to a line that is busy, with all unchanged
+-- refusal 3 comes before any step, to a line that is busy, with all unchanged, whatever its chips have met
 abbrev pub BusyUnchanged : Type 0
 BusyUnchanged =
-    (r : RigState) (places e steps : ℕ) (found : List ℕ) → MetAll r.line → (survey_call places r).1 ≡ (refused_as 3 e steps, found)
-    → ((survey_call places r).0 ≡ r) × (busy r.line ≡ true) × (found ≡ [])
-
--- and so it does whatever the chips have met
-abbrev pub BusyAlways : Type 0
-BusyAlways =
     (r : RigState) (places e steps : ℕ) (found : List ℕ) → (survey_call places r).1 ≡ (refused_as 3 e steps, found)
     → ((survey_call places r).0 ≡ r) × (busy r.line ≡ true) × (found ≡ [])
 

@@ -1,12 +1,11 @@
 -- The numbers on a line, listed in lent places.
-use Rattle.std.specs.Prelude.{◌≡◌, ℕ, ◌-◌, Bool, true, List, [], take, drop, Ok, Err, Result}
-use Rattle.line.specs.Lines.{busy}
+use Rattle.std.specs.Prelude.{◌≡◌, ℕ, ◌-◌, List, [], take, drop, Ok, Err, Result}
 use Rattle.wire.specs.Jobs.{Ran, done, line_busy, run}
 use Rattle.wire.specs.Jobs.{Said, good, bad, Report, answered, refused_as}
 use Rattle.survey.specs.Surveys.{passes}
 use Rattle.rig.specs.Meaning.{Counting}
 use Rattle.rig.specs.declared.fault.RigFault.TheVariants.{LineBusy}
-use Rattle.wire.specs.Exchanges.{number_of, fault_report}
+use Rattle.wire.specs.Exchanges.{number_of, fault_report, Tallies}
 use Rattle.wire.specs.declared.fault.ExchangeFault.TheVariants.{Rig, Failed}
 use Rattle.survey.specs.declared.fault.SurveyFault.{SurveyFault}
 use Rattle.survey.specs.declared.fault.SurveyFault.TheVariants.{NoPlace, Full, Exchange as InExchange}
@@ -19,13 +18,13 @@ survey_end d (Err (Full p s)) l = record { rig = d.rig; steps = s; got = done (b
 survey_end d (Err (InExchange (Rig LineBusy))) l = record { rig = d.rig; steps = d.steps; got = line_busy }
 survey_end d (Err (InExchange (Failed why e s))) l = record { rig = d.rig; steps = s; got = done (bad (number_of why) e, take (e - 1) l) }
 
--- later places stay; all of them where the line was busy at first
-abbrev pub Later : Bool → Result (ℕ × ℕ) SurveyFault → List ℕ → List ℕ → Type 0
-Later busy (Ok a) l l' = drop a.0 l' ≡ drop a.0 l
-Later busy (Err NoPlace) l l' = l' ≡ l
-Later busy (Err (Full p s)) l l' = drop p l' ≡ drop p l
-Later busy (Err (InExchange (Rig x))) l l' = busy ≡ true → l' ≡ l
-Later busy (Err (InExchange (Failed why e s))) l l' = drop (e - 1) l' ≡ drop (e - 1) l
+-- later places stay; all of them where the line was busy
+abbrev pub Later : Result (ℕ × ℕ) SurveyFault → List ℕ → List ℕ → Type 0
+Later (Ok a) l l' = drop a.0 l' ≡ drop a.0 l
+Later (Err NoPlace) l l' = l' ≡ l
+Later (Err (Full p s)) l l' = drop p l' ≡ drop p l
+Later (Err (InExchange (Rig x))) l l' = l' ≡ l
+Later (Err (InExchange (Failed why e s))) l l' = drop (e - 1) l' ≡ drop (e - 1) l
 
 -- an answer of a survey that began
 abbrev pub Begun : Result (ℕ × ℕ) SurveyFault → Type 0
@@ -34,10 +33,26 @@ Begun (Err NoPlace) = ⊥
 Begun (Err (Full p s)) = Unit {0}
 Begun (Err (InExchange e)) = Unit {0}
 
+-- the steps that an answer carries are those that the rig has counted
+abbrev pub Counts : Counting → Result (ℕ × ℕ) SurveyFault → Type 0
+Counts d (Ok a) = a.1 ≡ d.steps
+Counts d (Err NoPlace) = Unit {0}
+Counts d (Err (Full p s)) = s ≡ d.steps
+Counts d (Err (InExchange e)) = Tallies d e
+
+-- what the rig has counted after a survey: the steps that it answers; one refused before any step leaves the count
+abbrev pub survey_count : ℕ → Result (ℕ × ℕ) SurveyFault → ℕ
+survey_count n (Ok a) = a.1
+survey_count n (Err NoPlace) = n
+survey_count n (Err (Full p s)) = s
+survey_count n (Err (InExchange (Rig f))) = n
+survey_count n (Err (InExchange (Failed why e s))) = s
+
 pub record Surveyed (room : ℕ) (d d' : Counting) (l l' : List ℕ) (r : Result (ℕ × ℕ) SurveyFault) : Type 0 where
   pub so : survey_end d' r l' ≡ run d.steps (passes room 1 [] []) d.rig
-  pub later : Later (busy d.rig.line) r l l'
+  pub later : Later r l l'
   pub begun : Begun r
+  pub counts : Counts d' r
 
 -- what an answer tells a caller, with the numbers in the places
 abbrev pub survey_answer : Result (ℕ × ℕ) SurveyFault → List ℕ → Report ℕ × List ℕ

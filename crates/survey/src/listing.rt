@@ -1,15 +1,15 @@
 ghost use Rattle.std.specs.Prelude.{◌≡◌, ◌≤◌, map, length};
 ghost use Rattle.chip.specs.Steps.{bytes_of};
-ghost use Rattle.line.specs.Lines.{busy};
 ghost use Rattle.rig.specs.Meaning.{counting, rig_of};
 ghost use Rattle.survey.specs.Surveys.{survey_call, room_of};
-ghost use Rattle.survey.specs.Laws.{SurveyComplete, BusyUnchanged, BusyAlways, SurveySteps};
-ghost use Rattle.survey.specs.Listing.{Surveyed, survey_answer, Later};
+ghost use Rattle.survey.specs.Laws.{SurveyComplete, BusyUnchanged, SurveySteps};
+ghost use Rattle.survey.specs.Listing.{Surveyed, survey_answer, survey_count, Later};
 
 use crate::fault::SurveyFault;
 use crate::pass::make_pass;
 use line::bus::Line;
 use rig::master::Rig;
+use wire::opening::begin_job;
 
 // At most so many numbers are found.
 pub const MOST_PLACES: usize = 64;
@@ -43,17 +43,17 @@ fn list_numbers<L: Line>(
 // Lists the numbers of the powered chips, at most 64, in the lent places, since nothing is allocated; answers their count and the steps made.
 pub fn survey<L: Line>(rig: &mut Rig<L>, places: &mut [u64]) -> Result<(u8, u32), SurveyFault>
     ensures told { (rig_of L.chips rig.new, survey_answer result places.new) ≡ survey_call (length places.old) (rig_of L.chips rig.old) }
-    ensures later { Later (busy (L.chips rig.old.line)) result places.old places.new }
+    ensures counted { (counting L.chips rig.new).steps ≡ survey_count (counting L.chips rig.old).steps result }
+    ensures later { Later result places.old places.new }
     ensures bytes { map bytes_of (L.chips rig.new.line) ≡ map bytes_of (L.chips rig.old.line) }
     ensures complete { SurveyComplete }
     ensures unchanged { BusyUnchanged }
-    ensures busy { BusyAlways }
     ensures steps { SurveySteps }
 {
     if places.len() == 0 {
         return Err(SurveyFault::NoPlace);
     }
-    rig.begin_count();
+    begin_job(rig)?;
     let room = room_of(places.len());
     list_numbers(rig, places, room)
 }

@@ -10,14 +10,14 @@ use wire::bytes::send_byte;
 use wire::fault::{ExchangeFault, Why};
 use wire::opening::expect_presence;
 
-// One pass along a way: reset with presence, F0h and 64 triples.
-pub fn make_pass<L: Line>(rig: &mut Rig<L>, way: u64, count: u8) -> Result<Pass, ExchangeFault>
-    ensures { (counting L.chips rig.new, result) ≡ pass_told way count (counting L.chips rig.old) }
+// One pass along a way: reset with presence, F0h and 64 triples. With its number, which a fault carries.
+pub fn make_pass<L: Line>(rig: &mut Rig<L>, way: u64, number: u8) -> Result<Pass, ExchangeFault>
+    ensures { (counting L.chips rig.new, result) ≡ pass_told way number (counting L.chips rig.old) }
 {
-    expect_presence(rig, count)?;
+    expect_presence(rig, number)?;
     send_byte(rig, NumberCommand::SeekNumber.byte())?;
     let Some(pass) = walk(rig, way)? else {
-        return Err(ExchangeFault::found(rig, Why::Garbled, count));
+        return Err(ExchangeFault::found(rig, Why::Garbled, number));
     };
     Ok(pass)
 }

@@ -1,5 +1,5 @@
 -- Jobs without a dwell: they change no byte; and when no pulse of a job is refused.
-use Rattle.std.proofs.Common.{◌≡◌, ℕ, zero, suc, ◌^◌, ◌<◌, Bool, true, false, ◌&&◌, ◌||◌, eqb, leb, List, [], ◌∷◌, ◌++◌, map, sym, refl, ap, ◌∙◌, subst, ap₂}
+use Rattle.std.proofs.Common.{◌≡◌, ℕ, zero, suc, Bool, true, false, ◌&&◌, ◌||◌, leb, List, [], ◌∷◌, ◌++◌, map, sym, refl, ap, ◌∙◌, subst, ap₂}
 use mathlib.Core.Bool.{and-true}
 use Rattle.std.proofs.lemmas.Bool.{or_parts}
 use Rattle.bits.specs.Bits.{bits_of, bits_all, value, full}
@@ -9,10 +9,10 @@ use Rattle.memory.specs.Scratchpads.{Regs, Awaited, command, load_low, load_high
 use Rattle.memory.specs.Memories.{Memory, padded, take_memory, programming_memory}
 use Rattle.chip.specs.Chips.{Live, off, selected, matching, seeking}
 use Rattle.chip.specs.Chips.{on as under, idle as resting, sending as saying, command as ordering}
-use Rattle.chip.specs.Steps.{ChipState, bytes_of, is_busy, take_bit, reset_chip, cut_chip, takes, opened_as, opened_by}
+use Rattle.chip.specs.Steps.{ChipState, bytes_of, is_busy, take_bit, reset_chip, cut_chip, takes, opened_as}
 use Rattle.bits.proofs.Choice.{pick}
-use Rattle.chip.proofs.Keeps.{number-taken, bytes_taken, bytes_reset, bytes_cut_idle}
-use Rattle.chip.proofs.Select.{Hears, listening, takes-number, takes-idle, takes-off, hears_idle, hears_off}
+use Rattle.chip.proofs.Keeps.{bytes_taken, bytes_reset, bytes_cut_idle}
+use Rattle.chip.proofs.Select.{Hears, listening, select_some, takes-idle, takes-off, hears_idle, hears_off}
 use Rattle.line.specs.Lines.{presence, pull, busy}
 use Rattle.rig.specs.Rigs.{RigState, FuseState, none, after, Pulse, resets, slots, dwells, act, answer, deaf, pulse_by, pulse, refused, counted}
 use Rattle.rig.proofs.Unpowered.{cut_off}
@@ -20,7 +20,7 @@ use Rattle.wire.specs.Jobs.{Job, ret, step, Got, done, line_busy, Ran, run, Said
 use Rattle.wire.specs.Exchanges.{Exchange, answer as answers, refuse, opening, closing, dwelling, send, read, pulses}
 use Rattle.wire.specs.declared.fault.Why.{Why}
 use Rattle.wire.specs.declared.fault.Why.TheVariants.{NoPresence}
-use Rattle.wire.proofs.Leading.{HearsAll, hears_pull, hears_busy, hears_on, map-takes, map-none, WideAll, after_opening, sent-number, opened_hear, opened_take}
+use Rattle.wire.proofs.Leading.{HearsAll, hears_pull, hears_busy, hears_on, map-takes, map-none, after_opening, sent-number, opened_hear}
 use Rattle.wire.proofs.Power.{run_dead, on_step}
 
 -- 1. no byte changes
@@ -287,10 +287,9 @@ CalmIn (under rc selected) m = CalmMemory m
 abbrev pub CalmChip : ChipState → Type 0
 CalmChip c = CalmIn c.live c.memory
 
--- calm, and with a number that fits a word
 abbrev pub CalmAll : List ChipState → Type 0
 CalmAll [] = Unit {0}
-CalmAll (c ∷ cs) = (CalmChip c × (c.number < 2 ^ 64)) × CalmAll cs
+CalmAll (c ∷ cs) = CalmChip c × CalmAll cs
 
 abbrev CalmWork : Work → Type 0
 CalmWork w = CalmDoing w.doing
@@ -344,15 +343,11 @@ calm b c h = calm_live c.number c.memory b c.live h
 
 pub calm_busy : (l : List ChipState) → CalmAll l → busy l ≡ false
 calm_busy [] h = refl
-calm_busy (c ∷ cs) h = ap₂ (λ a b. a || b) (calm true c h.0.0).1 (calm_busy cs h.1)
+calm_busy (c ∷ cs) h = ap₂ (λ a b. a || b) (calm true c h.0).1 (calm_busy cs h.1)
 
 calm_take : (b : Bool) (l : List ChipState) → CalmAll l → CalmAll (map (take_bit b) l)
 calm_take b [] h = tt
-calm_take b (c ∷ cs) h = (((calm b c h.0.0).0, subst (λ n. n < 2 ^ 64) (sym (number-taken b c)) h.0.1), calm_take b cs h.1)
-
-pub calm_wide : (l : List ChipState) → CalmAll l → WideAll l
-calm_wide [] h = tt
-calm_wide (c ∷ cs) h = (h.0.1, calm_wide cs h.1)
+calm_take b (c ∷ cs) h = ((calm b c h.0).0, calm_take b cs h.1)
 
 -- slots on a calm line are never refused and leave it calm
 pub calm_send : {A : Type 0} (bs : List Bool) (k : Job A) (l : List ChipState) → CalmAll l → ((l' : List ChipState) → CalmAll l' → Unrefused k l') → Unrefused (send_bits bs k) l
@@ -378,14 +373,26 @@ heard_send (b ∷ bs) k l h u = (
       (heard_send bs k (map (take_bit b) l) (hears_on b bs l h) (subst (Unrefused k) (sym (map-takes b bs l)) u)),
 )
 
--- an exchange opens: no pulse is refused, and then the chips with the number listen
-pub unrefused_opening : {B : Type 0} (x : ℕ) (k nope : Job B) (l : List ChipState) → x < 2 ^ 64 → WideAll l → busy l ≡ false
-    → ((l' : List ChipState) → Unrefused nope l') → Unrefused k (map (opened_by x) l) → Unrefused (step resets (after_opening x k nope)) l
-unrefused_opening x k nope l hx w e un uk = (
+-- a chip once an exchange has begun: without power, selected or idle
+abbrev pub Begun : ChipState → Type 0
+Begun d = (c : ChipState) × (t : Bool) × (d ≡ opened_as c.live t c)
+
+abbrev pub BegunAll : List ChipState → Type 0
+BegunAll [] = Unit {0}
+BegunAll (d ∷ ds) = Begun d × BegunAll ds
+
+all_begun : (x : ℕ) (l : List ChipState) → busy l ≡ false → BegunAll (map (takes (bits_of 8 0x55 ++ bits_of 64 x)) (map reset_chip l))
+all_begun x [] e = tt
+all_begun x (c ∷ cs) e = let s = select_some x c (or_parts _ _ e).0 in ((c, s.0, s.1), all_begun x cs (or_parts _ _ e).1)
+
+-- an exchange opens: no pulse is refused, and then it has begun for each chip
+pub unrefused_opening : {B : Type 0} (x : ℕ) (k nope : Job B) (l : List ChipState) → busy l ≡ false
+    → ((l' : List ChipState) → Unrefused nope l') → ((l' : List ChipState) → BegunAll l' → Unrefused k l') → Unrefused (step resets (after_opening x k nope)) l
+unrefused_opening x k nope l e un uk = (
   e,
   pick (presence l) (λ j. Unrefused j (map reset_chip l))
       (subst (λ j. Unrefused j (map reset_chip l)) (sym (sent-number x k))
-      (heard_send (bits_of 8 0x55 ++ bits_of 64 x) k (map reset_chip l) (opened_hear x l e) (subst (Unrefused k) (sym (opened_take x l hx w e)) uk)))
+      (heard_send (bits_of 8 0x55 ++ bits_of 64 x) k (map reset_chip l) (opened_hear x l e) (uk (map (takes (bits_of 8 0x55 ++ bits_of 64 x)) (map reset_chip l)) (all_begun x l e))))
       (un (map reset_chip l)),
 )
 
@@ -395,14 +402,26 @@ Harmless b = (K : Rules) (m : List ℕ) (r : Regs) → CalmWork (obey K m (comma
 
 -- bits that every chip hears once an exchange has begun
 module _ (bs : List Bool) (heard : (x : ℕ) (m : Memory) → Hears bs (listening x m)) where
-  begun_hears : (x : ℕ) (m : Memory) (l : Live) (t : Bool) → Hears bs (opened_as l t (record { number = x; live = l; memory = m }))
-  begun_hears x m off t = hears_off x m bs
-  begun_hears x m (under rc p) true = heard x m
-  begun_hears x m (under rc p) false = hears_idle x m bs false
+  hears_as : (x : ℕ) (m : Memory) (l : Live) (t : Bool) → Hears bs (opened_as l t (record { number = x; live = l; memory = m }))
+  hears_as x m off t = hears_off x m bs
+  hears_as x m (under rc p) true = heard x m
+  hears_as x m (under rc p) false = hears_idle x m bs false
 
-  pub begun_hear : (x : ℕ) (l : List ChipState) → HearsAll bs (map (opened_by x) l)
-  begun_hear x [] = tt
-  begun_hear x (c ∷ cs) = (begun_hears c.number c.memory c.live (eqb c.number x), begun_hear x cs)
+  pub begun_hear : (l : List ChipState) → BegunAll l → HearsAll bs l
+  begun_hear [] h = tt
+  begun_hear (d ∷ ds) h = (subst (Hears bs) (sym h.0.2) (hears_as h.0.0.number h.0.0.memory h.0.0.live h.0.1), begun_hear ds h.1)
+
+-- what makes a chip calm that is selected makes every chip calm, once an exchange has begun
+module _ (f : ChipState → ChipState) (unpowered : (x : ℕ) (m : Memory) → CalmChip (f (record { number = x; live = off; memory = m })))
+    (selects : (x : ℕ) (m : Memory) → CalmChip (f (listening x m))) (rests : (x : ℕ) (m : Memory) → CalmChip (f (record { number = x; live = under false resting; memory = m }))) where
+  calm_as : (x : ℕ) (m : Memory) (l : Live) (t : Bool) → CalmChip (f (opened_as l t (record { number = x; live = l; memory = m })))
+  calm_as x m off t = unpowered x m
+  calm_as x m (under rc p) true = selects x m
+  calm_as x m (under rc p) false = rests x m
+
+  pub begun_calm : (l : List ChipState) → BegunAll l → CalmAll (map f l)
+  begun_calm [] h = tt
+  begun_calm (d ∷ ds) h = (subst (λ c. CalmChip (f c)) (sym h.0.2) (calm_as h.0.0.number h.0.0.memory h.0.0.live h.0.1), begun_calm ds h.1)
 
 module _ (b : ℕ) where
   listening_hears : (x : ℕ) (m : Memory) → Hears (bits_of 8 b) (listening x m)
@@ -411,14 +430,9 @@ module _ (b : ℕ) where
   listening_calm : Harmless b → (x : ℕ) (m : Memory) → CalmChip (takes (bits_of 8 b) (listening x m))
   listening_calm h x (padded p) = h p.rules p.bytes p.work.regs
 
-  open_calm : Harmless b → (x : ℕ) (m : Memory) (l : Live) (t : Bool) → x < 2 ^ 64 → CalmChip (takes (bits_of 8 b) (opened_as l t (record { number = x; live = l; memory = m }))) × ((takes (bits_of 8 b) (opened_as l t (record { number = x; live = l; memory = m }))).number < 2 ^ 64)
-  open_calm h x m off t w = (subst CalmChip (sym (takes-off x m (bits_of 8 b))) tt, subst (λ c. c.number < 2 ^ 64) (sym (takes-off x m (bits_of 8 b))) w)
-  open_calm h x m (under rc p) true w = (listening_calm h x m, subst (λ n. n < 2 ^ 64) (sym (takes-number (bits_of 8 b) (listening x m))) w)
-  open_calm h x m (under rc p) false w = (subst CalmChip (sym (takes-idle x m (bits_of 8 b) false)) tt, subst (λ c. c.number < 2 ^ 64) (sym (takes-idle x m (bits_of 8 b) false)) w)
-
-  pub command_hears : (x : ℕ) (l : List ChipState) → HearsAll (bits_of 8 b) (map (opened_by x) l)
+  pub command_hears : (l : List ChipState) → BegunAll l → HearsAll (bits_of 8 b) l
   command_hears = begun_hear (bits_of 8 b) listening_hears
 
-  pub command_calm : Harmless b → (x : ℕ) (l : List ChipState) → WideAll l → CalmAll (map (takes (bits_of 8 b)) (map (opened_by x) l))
-  command_calm h x [] w = tt
-  command_calm h x (c ∷ cs) w = (open_calm h c.number c.memory c.live (eqb c.number x) w.0, command_calm h x cs w.1)
+  pub command_calm : Harmless b → (l : List ChipState) → BegunAll l → CalmAll (map (takes (bits_of 8 b)) l)
+  command_calm h =
+      begun_calm (takes (bits_of 8 b)) (λ x m. subst CalmChip (sym (takes-off x m (bits_of 8 b))) tt) (listening_calm h) (λ x m. subst CalmChip (sym (takes-idle x m (bits_of 8 b) false)) tt)

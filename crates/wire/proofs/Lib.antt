@@ -9,3 +9,4 @@ pub mod One
 pub mod Cuts
 pub mod Counts
 pub mod Selected
+pub mod Tallies

@@ -2,8 +2,10 @@
 -- and as the pulses that it makes; they agree.
 use Rattle.std.specs.Prelude.{◌≡◌, ℕ, Bool, true, false, cond, List, [], ◌∷◌, Ok, Err, Result}
 use Rattle.number.specs.Numbers.{word_bytes}
+use Rattle.line.specs.Lines.{busy}
 use Rattle.rig.specs.Rigs.{resets, dwells, pulse, counted}
 use Rattle.rig.specs.Meaning.{Counting, beat, refusal}
+use Rattle.rig.specs.declared.fault.RigFault.TheVariants.{LineBusy}
 use Rattle.wire.specs.Jobs.{Job, step, send_bytes, read_bytes, Report, refused_as}
 use Rattle.wire.specs.Wires.{does, sends, reads, onward, keep}
 use Rattle.refusals.specs.Refusals.{number_of as numbered}
@@ -26,6 +28,16 @@ fault_report (Failed why e s) = refused_as (number_of why) e s
 -- what a refused job tells, with the number of its refusal
 abbrev pub told_as : {A : Type 0} → Refused → Report A
 told_as r = refused_as (numbered r.refusal) r.exchange r.steps
+
+-- the steps that a fault carries are those that the rig has counted
+abbrev pub Tallies : Counting → ExchangeFault → Type 0
+Tallies d (Rig f) = Unit {0}
+Tallies d (Failed why e s) = s ≡ d.steps
+
+-- a job begins, its steps counted from 0, unless the line is busy
+abbrev pub JobBegan : Counting → Counting → Result (Unit {0}) ExchangeFault → Type 0
+JobBegan d d' (Ok u) = (busy d.rig.line ≡ false) × (d' ≡ record { rig = d.rig; steps = 0 })
+JobBegan d d' (Err f) = (busy d.rig.line ≡ true) × (d' ≡ d) × (f ≡ Rig LineBusy)
 
 -- a reset that must find a chip, in an exchange of a job
 abbrev pub present : ℕ → Counting → Counting × Result (Unit {0}) ExchangeFault

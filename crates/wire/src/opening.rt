@@ -1,6 +1,6 @@
 ghost use Rattle.std.specs.Prelude.{◌≡◌};
 ghost use Rattle.rig.specs.Meaning.{counting};
-ghost use Rattle.wire.specs.Exchanges.{begins, present};
+ghost use Rattle.wire.specs.Exchanges.{JobBegan, begins, present};
 
 use crate::bytes::{send_byte, send_bytes};
 use crate::fault::{ExchangeFault, Why};
@@ -8,6 +8,13 @@ use chip::command::NumberCommand;
 use line::bus::Line;
 use number::registration::Number;
 use rig::master::Rig;
+
+// A job begins, its steps counted from 0; refusal 3 while the line is busy, with all unchanged.
+pub fn begin_job<L: Line>(rig: &mut Rig<L>) -> Result<(), ExchangeFault>
+    ensures { JobBegan (counting L.chips rig.old) (counting L.chips rig.new) result }
+{
+    Ok(rig.begin_job()?)
+}
 
 // A reset that must find a chip.
 pub fn expect_presence<L: Line>(rig: &mut Rig<L>, exchange: u8) -> Result<(), ExchangeFault>

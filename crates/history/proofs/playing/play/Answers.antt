@@ -2,11 +2,11 @@ use Rattle.std.proofs.Common.{◌≡◌, ◌+◌, ◌<◌, List, map, length, ta
 use Rattle.std.proofs.lemmas.List.{drop-set-lt, get_or-take, length-take}
 use Rattle.std.proofs.lemmas.Grind.{drop_more_same}
 use Rattle.rig.specs.Rigs.{RigState}
-use Rattle.rig.specs.Meaning.{rig_of}
+use Rattle.rig.specs.Meaning.{rig_of, counting}
 use Rattle.history.specs.Calls.{Reply}
 use Rattle.history.specs.Laws.{numbers}
-use Rattle.history.specs.Meaning.{request_of}
-use Rattle.history.proofs.Runs.{Played, played_more}
+use Rattle.history.specs.Meaning.{request_of, tally, AllUnfilled}
+use Rattle.history.proofs.Runs.{Played, played_more, tally_more, unfilled_more}
 use Rattle.history.specs.declared.calls.Call.{Call}
 use Rattle.history.proofs.Stays.{numbers_stay, only_programming, steps_only_program, power_up_forgets, met_stays}
 use Rattle.history.proofs.Silent.{silent_unpowered}
@@ -27,9 +27,13 @@ loop-i-preserved g c =
     let called : i < c.min-count.result = omega arith in
     let below : i < i + 1 = omega arith in (
       played_more calls answers i q c.make_call.result (rig_of g.L.Line.chips c.args.rig.now) (rig_of g.L.Line.chips c.loop-i.rig)
-          (rig_of g.L.Line.chips c.make_call.new.rig) asked room c.loop-i.invariant.0 c.make_call.ensures
+          (rig_of g.L.Line.chips c.make_call.new.rig) asked room c.loop-i.invariant.0 c.make_call.ensures.told
           (c.call-item.is ∙ get_or-take c.min-count.result calls i q called),
       drop-set-lt (i + 1) answers i c.make_call.result below ∙ drop_more_same answers c.args.answers.now i c.loop-i.invariant.1,
+      tally_more calls answers i q c.make_call.result (counting g.L.Line.chips c.args.rig.now).steps (counting g.L.Line.chips c.loop-i.rig).steps
+          (counting g.L.Line.chips c.make_call.new.rig).steps asked room c.loop-i.invariant.2 c.make_call.ensures.counted
+          (c.call-item.is ∙ get_or-take c.min-count.result calls i q called),
+      unfilled_more answers i c.make_call.result room c.loop-i.invariant.3 c.make_call.ensures.rest,
     )
 
 pub returns : goal.returns
@@ -40,6 +44,8 @@ returns g c =
     record {
       count = omega arith;
       told = told;
+      counted = subst (λ n. (counting g.L.Line.chips c.loop-i.rig).steps ≡ tally (take n c.args.calls.now) (take n c.loop-i.answers) (counting g.L.Line.chips c.args.rig.now).steps) all c.loop-i.invariant.2;
+      rest = subst (λ n. AllUnfilled (take n c.loop-i.answers)) all c.loop-i.invariant.3;
       later = ap (λ n. drop n c.loop-i.answers) (sym all) ∙ c.loop-i.invariant.1 ∙ ap (λ n. drop n c.args.answers.now) all;
       here = ap (λ (t : RigState × List Reply). numbers t.0) told ∙ numbers_stay r (map request_of (take c.min-count.result c.args.calls.now));
       numbers = numbers_stay;

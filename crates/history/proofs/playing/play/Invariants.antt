@@ -1,10 +1,12 @@
 use Rattle.std.proofs.Common.{◌≡◌, map, take, drop}
-use Rattle.rig.specs.Meaning.{rig_of}
+use Rattle.rig.specs.Meaning.{rig_of, counting}
 use Rattle.history.specs.Calls.{serve_all}
-use Rattle.history.specs.Meaning.{request_of, reply_of}
+use Rattle.history.specs.Meaning.{request_of, reply_of, tally, AllUnfilled}
 use Rattle.history.proofs.playing.play.Given as goal
 
 abbrev pub invariant-loop-i : goal.invariant-loop-i
 invariant-loop-i g l =
     ((rig_of g.L.Line.chips l.rig, map reply_of (take l.i l.answers)) ≡ serve_all (map request_of (take l.i l.calls)) (rig_of g.L.Line.chips l.initial.rig))
     × (drop l.i l.answers ≡ drop l.i l.initial.answers)
+    × ((counting g.L.Line.chips l.rig).steps ≡ tally (take l.i l.calls) (take l.i l.answers) (counting g.L.Line.chips l.initial.rig).steps)
+    × AllUnfilled (take l.i l.answers)

@@ -1,7 +1,13 @@
-use Rattle.std.proofs.Common.{ap, ◌∙◌}
-use Rattle.rig.specs.Meaning.{rig_of}
+use Rattle.std.proofs.Common.{Err, refl, ap, ◌∙◌}
+use Rattle.line.specs.Lines.{busy}
+use Rattle.rig.specs.Meaning.{rig_of, counting}
+use Rattle.rig.specs.declared.fault.RigFault.TheVariants.{LineBusy}
+use Rattle.wire.specs.declared.fault.ExchangeFault.TheVariants.{Rig}
+use Rattle.wire.proofs.Steps.{exits}
+use Rattle.order.specs.declared.fault.OrderFault.TheVariants.{Exchange as InExchange}
 use Rattle.order.specs.Orders.{order_call}
-use Rattle.order.proofs.Chain.{row_refused, order_called}
+use Rattle.order.specs.Meaning.{order_verdict}
+use Rattle.order.proofs.Chain.{row_refused, order_busy, order_called, order_counted}
 use Rattle.order.proofs.Truth.{order-tells}
 use Rattle.order.proofs.Quiet.{busy_unchanged, uncopied}
 use Rattle.order.proofs.Steps.{order_steps}
@@ -11,17 +17,36 @@ pub returns-then-row-ne0 : goal.returns-then-row-ne0
 returns-then-row-ne0 g c =
     record {
       told = row_refused c.args.number.word c.args.row c.args.new.now (rig_of g.L.Line.chips c.args.rig.now) c.if-row-ne0.true;
+      counted = refl;
       tells = order-tells;
       unchanged = busy_unchanged;
       uncopied = uncopied;
       steps = order_steps;
     }
 
+pub returns-in_err-begin_job : goal.returns-in_err-begin_job
+returns-in_err-begin_job g c =
+    let f = c.in_err-begin_job.ensures in
+    rw (exits c.from_residual.ensures.1) (rw f.2
+    (record {
+      told = ap (λ d. (d.rig, order_verdict (Err (InExchange (Rig LineBusy))))) f.1
+          ∙ order_busy c.args.number.word c.args.row c.args.new.now (rig_of g.L.Line.chips c.args.rig.now) c.if-row-ne0.false f.0;
+      counted = ap (λ d. d.steps) f.1;
+      tells = order-tells;
+      unchanged = busy_unchanged;
+      uncopied = uncopied;
+      steps = order_steps;
+    }))
+
 pub returns : goal.returns
 returns g c =
+    let b = c.in_ok-begin_job.ensures in
     record {
-      told = order_called c.args.number.word c.args.row c.args.new.now c.if-row-ne0.false (ap (λ d. d.steps) c.begin_count.ensures) c.order_steps.ensures
-          ∙ ap (λ d. order_call c.args.number.word c.args.row c.args.new.now d.rig) c.begin_count.ensures;
+      told = order_called c.args.number.word c.args.row c.args.new.now c.if-row-ne0.false (ap (λ d. d.steps) b.1) c.order_steps.ensures
+          ∙ ap (λ d. order_call c.args.number.word c.args.row c.args.new.now d.rig) b.1;
+      counted =
+          order_counted c.args.number.word c.args.row c.args.new.now c.order_steps.result (counting g.L.Line.chips c.args.rig.now).steps
+          (ap (λ d. busy d.rig.line) b.1 ∙ b.0) c.order_steps.ensures;
       tells = order-tells;
       unchanged = busy_unchanged;
       uncopied = uncopied;

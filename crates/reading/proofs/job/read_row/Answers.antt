@@ -1,13 +1,18 @@
-use Rattle.std.proofs.Common.{◌≡◌, ℕ, List, map, sym, refl, ap, ◌∙◌, true≢false}
+use Rattle.std.proofs.Common.{◌≡◌, ℕ, List, map, Err, sym, refl, ap, ◌∙◌, true≢false}
 use Rattle.chip.specs.Steps.{bytes_of}
 use Rattle.rig.specs.Rigs.{RigState}
-use Rattle.rig.specs.Meaning.{rig_of}
+use Rattle.line.specs.Lines.{busy}
+use Rattle.rig.specs.Meaning.{rig_of, counting}
+use Rattle.rig.specs.declared.fault.RigFault.TheVariants.{LineBusy}
+use Rattle.wire.specs.declared.fault.ExchangeFault.TheVariants.{Rig}
+use Rattle.reading.specs.declared.fault.ReadFault.TheVariants.{Exchange as InExchange}
+use Rattle.reading.specs.Meaning.{read_report}
 use Rattle.wire.specs.Jobs.{Report}
 use Rattle.reading.specs.Readings.{read_call}
 use Rattle.wire.proofs.Steps.{exits}
 use Rattle.wire.proofs.Selected.{line_laws}
-use Rattle.reading.proofs.Chain.{row_refused, read_ok, read_err}
-use Rattle.reading.proofs.Quiet.{bytes_stay, busy_unchanged, busy-refused}
+use Rattle.reading.proofs.Chain.{row_refused, read_busy, read_ok, read_err, count_err}
+use Rattle.reading.proofs.Quiet.{bytes_stay, busy_unchanged}
 use Rattle.reading.proofs.Truth.{reading-tells}
 use Rattle.reading.proofs.Steps.{reading_steps}
 use Rattle.reading.proofs.job.read_row.Goals as goal
@@ -20,44 +25,63 @@ pub returns-then-row-ne0 : goal.returns-then-row-ne0
 returns-then-row-ne0 g c =
     record {
       told = row_refused c.args.number.word c.args.row (rig_of g.L.Line.chips c.args.rig.now) c.args.into.now c.if-row-ne0.true;
+      counted = refl;
       kept = λ _. refl;
       bytes = refl;
       tells = reading-tells;
       unchanged = busy_unchanged;
-      busy = busy-refused;
       steps = reading_steps;
       lines = line_laws;
     }
 
+pub returns-in_err-begin_job : goal.returns-in_err-begin_job
+returns-in_err-begin_job g c =
+    let f = c.in_err-begin_job.ensures in
+    rw (exits c.from_residual.ensures.1) (rw f.2
+    (record {
+      told = ap (λ d. (d.rig, read_report (Err (InExchange (Rig LineBusy))) c.args.into.now)) f.1
+          ∙ read_busy c.args.number.word c.args.row (rig_of g.L.Line.chips c.args.rig.now) c.args.into.now c.if-row-ne0.false f.0;
+      counted = ap (λ d. d.steps) f.1;
+      kept = λ _. refl;
+      bytes = ap (λ d. map bytes_of d.rig.line) f.1;
+      tells = reading-tells;
+      unchanged = busy_unchanged;
+      steps = reading_steps;
+      lines = line_laws;
+    }))
+
 pub returns-in_err-found : goal.returns-in_err-found
 returns-in_err-found g c =
+    let b = c.in_ok-begin_job.ensures in
+    let f = c.in_err-found.field-0.0 in
     let told =
-    read_err c.args.number.word c.args.row c.in_err-found.field-0.0 c.args.into.now c.if-row-ne0.false (ap (λ d. d.steps) c.begin_count.ensures) c.in_err-found.ensures
-    ∙ ap (λ d. read_call c.args.number.word c.args.row d.rig) c.begin_count.ensures in
-    rw (exits c.from_residual.ensures.1)
+    read_err c.args.number.word c.args.row f c.args.into.now c.if-row-ne0.false (ap (λ d. d.steps) b.1) c.in_err-found.ensures
+    ∙ ap (λ d. read_call c.args.number.word c.args.row d.rig) b.1 in
+    rw (exits c.from_residual-in_err-found.ensures.1)
     (record {
       told = told;
+      counted = count_err c.args.number.word c.args.row f (counting g.L.Line.chips c.args.rig.now).steps (ap (λ d. busy d.rig.line) b.1 ∙ b.0) c.in_err-found.ensures;
       kept = λ _. refl;
       bytes = same (rig_of g.L.Line.chips c.args.rig.now) c.args.number.word c.args.row told;
       tells = reading-tells;
       unchanged = busy_unchanged;
-      busy = busy-refused;
       steps = reading_steps;
       lines = line_laws;
     })
 
 pub returns : goal.returns
 returns g c =
+    let b = c.in_ok-begin_job.ensures in
     let told =
-    read_ok c.args.number.word c.args.row c.if-row-ne0.false (ap (λ d. d.steps) c.begin_count.ensures) c.in_ok-found.ensures
-    ∙ ap (λ d. read_call c.args.number.word c.args.row d.rig) c.begin_count.ensures in
+    read_ok c.args.number.word c.args.row c.if-row-ne0.false (ap (λ d. d.steps) b.1) c.in_ok-found.ensures
+    ∙ ap (λ d. read_call c.args.number.word c.args.row d.rig) b.1 in
     record {
       told = told;
+      counted = sym c.in_ok-found.ensures.counts;
       kept = λ e. absurd (true≢false (sym e));
       bytes = same (rig_of g.L.Line.chips c.args.rig.now) c.args.number.word c.args.row told;
       tells = reading-tells;
       unchanged = busy_unchanged;
-      busy = busy-refused;
       steps = reading_steps;
       lines = line_laws;
     }

@@ -3,4 +3,4 @@ use Rattle.sums.specs.Sums.{crc16}
 use Rattle.scratchpad.proofs.pad.head_sum.Goals as goal
 
 pub returns : goal.returns
-returns c = c.crc16.ensures.value ∙ ap (λ b. crc16 0 (b ∷ c.args.low ∷ c.args.high ∷ [])) c.byte.ensures
+returns c = c.crc16.ensures.value ∙ ap (λ b. crc16 0 (b ∷ c.args.low ∷ c.args.high ∷ [])) c.byte.ensures.byte

@@ -1,14 +1,18 @@
-use Rattle.std.proofs.Common.{◌≡◌, ℕ, List, map, length, refl, ap, ◌∙◌, subst}
+use Rattle.std.proofs.Common.{◌≡◌, ℕ, List, map, length, Err, refl, ap, ◌∙◌}
 use Rattle.chip.specs.Steps.{bytes_of}
 use Rattle.line.specs.Lines.{busy}
 use Rattle.rig.specs.Rigs.{RigState}
+use Rattle.rig.specs.declared.fault.RigFault.TheVariants.{LineBusy}
+use Rattle.wire.specs.declared.fault.ExchangeFault.TheVariants.{Rig}
+use Rattle.wire.proofs.Steps.{exits}
+use Rattle.survey.specs.declared.fault.SurveyFault.TheVariants.{Exchange as InExchange}
+use Rattle.survey.specs.Listing.{survey_answer}
 use Rattle.rig.specs.Meaning.{counting, rig_of}
 use Rattle.wire.specs.Jobs.{Report}
 use Rattle.survey.specs.Surveys.{survey_call}
-use Rattle.survey.specs.Listing.{Later}
-use Rattle.survey.proofs.Called.{none-refused, survey_called}
+use Rattle.survey.proofs.Called.{none-refused, survey_called, counted_after}
 use Rattle.survey.proofs.Counted.{survey_steps}
-use Rattle.survey.proofs.Surveyed.{survey_complete, busy_unchanged, busy_always, bytes_stay}
+use Rattle.survey.proofs.Surveyed.{survey_complete, survey_busy, busy_unchanged, bytes_stay}
 use Rattle.survey.proofs.listing.survey.Goals as goal
 
 -- what the call tells of the tags' bytes
@@ -19,26 +23,42 @@ pub returns-then-places-eq0 : goal.returns-then-places-eq0
 returns-then-places-eq0 g c =
     record {
       told = none-refused (length c.args.places.now) (rig_of g.L.Line.chips c.args.rig.now) c.args.places.now c.if-places-eq0.true;
+      counted = refl;
       later = refl;
       bytes = refl;
       complete = survey_complete;
       unchanged = busy_unchanged;
-      busy = busy_always;
       steps = survey_steps;
     }
 
+pub returns-in_err-begin_job : goal.returns-in_err-begin_job
+returns-in_err-begin_job g c =
+    let f = c.in_err-begin_job.ensures in
+    rw (exits c.from_residual.ensures.1) (rw f.2
+    (record {
+      told = ap (λ d. (d.rig, survey_answer (Err (InExchange (Rig LineBusy))) c.args.places.now)) f.1
+          ∙ survey_busy (length c.args.places.now) (rig_of g.L.Line.chips c.args.rig.now) c.if-places-eq0.false f.0;
+      counted = ap (λ d. d.steps) f.1;
+      later = refl;
+      bytes = ap (λ d. map bytes_of d.rig.line) f.1;
+      complete = survey_complete;
+      unchanged = busy_unchanged;
+      steps = survey_steps;
+    }))
+
 pub returns : goal.returns
 returns g c =
+    let b = c.in_ok-begin_job.ensures in
     let told =
-    survey_called (length c.args.places.now) c.room_of-room.result (counting g.L.Line.chips c.begin_count.new.self) (counting g.L.Line.chips c.list_numbers.new.rig)
-    c.args.places.now c.list_numbers.new.places c.list_numbers.result c.if-places-eq0.false c.room_of-room.ensures (ap (λ d. d.steps) c.begin_count.ensures) c.list_numbers.ensures
-    ∙ ap (λ d. survey_call (length c.args.places.now) d.rig) c.begin_count.ensures in
+    survey_called (length c.args.places.now) c.room_of-room.result _ (counting g.L.Line.chips c.list_numbers.new.rig)
+    c.args.places.now c.list_numbers.new.places c.list_numbers.result c.if-places-eq0.false c.room_of-room.ensures (ap (λ d. d.steps) b.1) c.list_numbers.ensures
+    ∙ ap (λ d. survey_call (length c.args.places.now) d.rig) b.1 in
     record {
       told = told;
-      later = subst (λ d. Later (busy d.rig.line) c.list_numbers.result c.args.places.now c.list_numbers.new.places) c.begin_count.ensures c.list_numbers.ensures.later;
+      counted = counted_after c.list_numbers.result (counting g.L.Line.chips c.args.rig.now).steps (ap (λ d. busy d.rig.line) b.1 ∙ b.0) c.list_numbers.ensures;
+      later = c.list_numbers.ensures.later;
       bytes = same (rig_of g.L.Line.chips c.args.rig.now) (length c.args.places.now) told;
       complete = survey_complete;
       unchanged = busy_unchanged;
-      busy = busy_always;
       steps = survey_steps;
     }

@@ -14,7 +14,7 @@ pub returns-in-ReadScratchpad : goal.returns-in-ReadScratchpad
 returns-in-ReadScratchpad g c =
     let r = regs_of c.args.self.now.regs in
     let p = model g.K.Kind.rules g.K.Kind.bytes c.args.self.now in
-    let byte : c.byte.result ≡ 0xAA = c.byte.ensures ∙ ap byte_of c.in-ReadScratchpad.is in
+    let byte : c.byte.result ≡ 0xAA = c.byte.ensures.byte ∙ ap byte_of c.in-ReadScratchpad.is in
     let sum : c.crc16_more.result ≡ crc16 0 (0xAA ∷ []) = c.crc16_more.ensures ∙ ap (λ b. crc16 0 (b ∷ [])) byte in
     ap (λ d. working p (on r d))
     (c.report_from-self.ensures ∙ ap (λ s. sending (bits_all (closing s (drop 0 (report r))))) sum ∙ ap sending (closing_all (report r)))

@@ -19,8 +19,8 @@ const NEW: [u8; 8] = [1, 2, 3, 4, 5, 6, 7, 8];
 // With 0Fh and row 0000h before them, these bytes have the CRC-16 0.
 const SUM_ZERO: [u8; 8] = [0x00, 0x00, 0x00, 0x00, 0x00, 0x00, 0x41, 0xF0];
 
-// CCh, 55h, 08h, 00h, 87h.
-const COPY_AGAIN: u64 = 0x87_0008_55CC;
+// The copy of the plug's last row once more: no number, 55h, row 0008h and the status after a copy.
+const COPY_AGAIN: [u8; 5] = [0xCC, 0x55, 0x08, 0x00, 0x87];
 
 fn list(places: usize) -> Call {
     Call::Survey { places }
@@ -203,7 +203,7 @@ impl Pair<'_> {
         )?;
         self.session
             .ask(&[Call::PowerUp, order(self.plug, 0x08, NEW), Call::Reset])?;
-        self.session.send_forty(COPY_AGAIN);
+        self.session.send(&COPY_AGAIN);
         self.session.ask(&[
             Call::Reset,
             Call::Slot(true),

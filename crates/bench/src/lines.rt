@@ -1,7 +1,6 @@
 use crate::runs::{Alone, Crowd, Pair};
 use crate::said::Made;
 use crate::session::Session;
-use kind::tags::Kind;
 use line::ends::Joint;
 use number::registration::Number;
 use plug::practice::PracticePlug;
@@ -16,8 +15,8 @@ use tag::making::make_tag;
 pub fn gearbox(rt: &HostRuntime) -> anyhow::Result<()> {
     tell_numbers(rt)?;
     let number = number_of(GEARBOX)?;
-    tell_image::<SealedTag>(rt, number, &[0xFF; 135])?;
-    tell_image::<SealedTag>(rt, number, &[0xFF; 136])?;
+    tell_image(rt, number, &[0xFF; 135])?;
+    tell_image(rt, number, &[0xFF; 136])?;
     let tag = tag_of::<SealedTag>(GEARBOX, &[0xFF; 136])?;
     let mut alone = Alone {
         session: Session::new(rt, tag),
@@ -38,9 +37,9 @@ fn tell_numbers(rt: &HostRuntime) -> io::Result<()> {
     Ok(())
 }
 
-fn tell_image<K: Kind + Drop>(rt: &HostRuntime, number: Number, image: &[u8]) -> io::Result<()> {
+fn tell_image(rt: &HostRuntime, number: Number, image: &[u8]) -> io::Result<()> {
     let length = image.len();
-    let mut place: Option<Tag<K>> = None;
+    let mut place: Option<Tag<SealedTag>> = None;
     let made = make_tag(&mut place, number, image).map_err(|fault| fault.refusal());
     println!(rt;
         "Sealed tag from an image of {length} bytes: {}.",
