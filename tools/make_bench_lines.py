@@ -67,6 +67,7 @@ def copy_scratchpad(rig, number, target):
 def order(rig, number, row, new):
     """Write a row and read it back; answers whether the tag programmed."""
     require_a_row(row)
+    rig.refuse_if_busy()
     rig.zero_counters()
     target = row.to_bytes(2, "little")
     load_row(rig, number, target, new)

@@ -65,6 +65,7 @@ def find_row(rig, exchange, number, row):
 def reading(rig, number, row):
     """The eight bytes of a row, in three exchanges."""
     require_a_row(row)
+    rig.refuse_if_busy()
     rig.zero_counters()
     open_exchange(rig, 1, number, b"\xAA")
     if read(rig, 3) == b"\xFF\xFF\xFF":
@@ -98,6 +99,7 @@ def search(rig, room, found):
     """Append the numbers on the line to a list, a pass for each."""
     if room == 0:
         raise JobRefused(NO_ROOM, 0, 0)
+    rig.refuse_if_busy()
     rig.zero_counters()
     passes = min(room, MOST_PASSES)
     forced = []

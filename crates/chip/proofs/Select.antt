@@ -4,7 +4,6 @@ use Rattle.std.proofs.lemmas.Bool.{eqb-true, true≢false}
 use Rattle.bits.specs.Bits.{bits_of, value, same}
 use Rattle.bits.specs.Widths.{value_bits}
 use Rattle.memory.specs.Memories.{Memory, protocols, begin_memory}
-use Rattle.chip.proofs.Keeps.{number-taken}
 use Rattle.chip.specs.Chips.{Live, Phase, off, on, idle, command, matching, selected, agreed, reset_live}
 use Rattle.chip.specs.Steps.{ChipState, is_busy, pull_of, take_bit, reset_chip, takes, opened_as, opened_by}
 
@@ -16,10 +15,6 @@ Hears (b ∷ bs) c = (pull_of c ≡ true) × (is_busy c ≡ false) × Hears bs (
 pub takes-append : (us vs : List Bool) (c : ChipState) → takes (us ++ vs) c ≡ takes vs (takes us c)
 takes-append [] vs c = refl
 takes-append (u ∷ us) vs c = takes-append us vs (take_bit u c)
-
-pub takes-number : (bs : List Bool) (c : ChipState) → (takes bs c).number ≡ c.number
-takes-number [] c = refl
-takes-number (b ∷ bs) c = takes-number bs (take_bit b c) ∙ number-taken b c
 
 pub hears_append : (us vs : List Bool) (c : ChipState) → Hears us c → Hears vs (takes us c) → Hears (us ++ vs) c
 hears_append [] vs c h g = g

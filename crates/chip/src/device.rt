@@ -1,7 +1,7 @@
 ghost use Rattle.std.specs.Prelude.{◌≡◌, true, false, not, []};
 ghost use Rattle.bits.specs.Bits.{same, front_bit, rest_bits, spent};
 ghost use Rattle.memory.specs.Memories.{protocols};
-ghost use Rattle.chip.specs.Chips.{idle, on, at, select, take_in, obey, command, command_of};
+ghost use Rattle.chip.specs.Chips.{on, at, select, take_in, obey, command, command_of};
 ghost use Rattle.chip.specs.Commands.{meant};
 ghost use Rattle.chip.specs.Steps.{made_chip, has_power, is_busy, pull_of, take_bit, reset_chip, dwell_chip, cut_chip, power_chip};
 ghost use Rattle.chip.specs.Effects.{effect};
@@ -223,6 +223,7 @@ fn command() -> RomPhase
 }
 
 // A taken bit differs from the next one of the number.
+// A function: in the guard itself the toolchain refuses a method called on what the arm has bound.
 fn differs(rest: Outgoing, bit: bool) -> bool
     ensures { result ≡ not (same (front_bit rest) bit) }
 {

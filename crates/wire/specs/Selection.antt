@@ -1,4 +1,4 @@
--- Laws of every line, on which all jobs rest: who listens, who is quiet, who is heard, and what a cut leaves.
+-- Laws of lines, on which all jobs rest: who listens, who is quiet, who is heard, and what a cut leaves.
 use Rattle.std.specs.Prelude.{◌≡◌, ℕ, ◌^◌, ◌<◌, Bool, true, false, ◌≢◌, ◌⊎◌, List, [], ◌∷◌, ◌++◌, map}
 use Rattle.chip.specs.Chips.{off, on, idle}
 use Rattle.chip.specs.Steps.{ChipState, has_power, is_busy, pull_of, take_bit, cut_chip, opened_by}
