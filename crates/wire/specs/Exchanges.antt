@@ -2,9 +2,8 @@
 -- and as the pulses that it makes; they agree.
 use Rattle.std.specs.Prelude.{◌≡◌, ℕ, Bool, true, false, cond, List, [], ◌∷◌, Ok, Err, Result}
 use Rattle.number.specs.Numbers.{word_bytes}
-use Rattle.line.specs.Lines.{busy}
 use Rattle.rig.specs.Rigs.{resets, dwells, pulse, counted}
-use Rattle.rig.specs.Meaning.{Counting, beat, refusal}
+use Rattle.rig.specs.Meaning.{Counting, Began, beat, refusal}
 use Rattle.rig.specs.declared.fault.RigFault.TheVariants.{LineBusy}
 use Rattle.wire.specs.Jobs.{Job, step, send_bytes, read_bytes, Report, refused_as}
 use Rattle.wire.specs.Wires.{does, sends, reads, onward, keep}
@@ -34,10 +33,10 @@ abbrev pub Tallies : Counting → ExchangeFault → Type 0
 Tallies d (Rig f) = Unit {0}
 Tallies d (Failed why e s) = s ≡ d.steps
 
--- a job begins, its steps counted from 0, unless the line is busy
+-- a job begins as its rig says, and a refusal is an exchange's fault
 abbrev pub JobBegan : Counting → Counting → Result (Unit {0}) ExchangeFault → Type 0
-JobBegan d d' (Ok u) = (busy d.rig.line ≡ false) × (d' ≡ record { rig = d.rig; steps = 0 })
-JobBegan d d' (Err f) = (busy d.rig.line ≡ true) × (d' ≡ d) × (f ≡ Rig LineBusy)
+JobBegan d d' (Ok u) = Began d d' (Ok u)
+JobBegan d d' (Err f) = Began d d' (Err LineBusy) × (f ≡ Rig LineBusy)
 
 -- a reset that must find a chip, in an exchange of a job
 abbrev pub present : ℕ → Counting → Counting × Result (Unit {0}) ExchangeFault

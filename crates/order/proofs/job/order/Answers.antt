@@ -27,11 +27,11 @@ returns-then-row-ne0 g c =
 pub returns-in_err-begin_job : goal.returns-in_err-begin_job
 returns-in_err-begin_job g c =
     let f = c.in_err-begin_job.ensures in
-    rw (exits c.from_residual.ensures.1) (rw f.2
+    rw (exits c.from_residual.ensures.1) (rw f.1
     (record {
-      told = ap (λ d. (d.rig, order_verdict (Err (InExchange (Rig LineBusy))))) f.1
-          ∙ order_busy c.args.number.word c.args.row c.args.new.now (rig_of g.L.Line.chips c.args.rig.now) c.if-row-ne0.false f.0;
-      counted = ap (λ d. d.steps) f.1;
+      told = ap (λ d. (d.rig, order_verdict (Err (InExchange (Rig LineBusy))))) f.0.1
+          ∙ order_busy c.args.number.word c.args.row c.args.new.now (rig_of g.L.Line.chips c.args.rig.now) c.if-row-ne0.false f.0.0;
+      counted = ap (λ d. d.steps) f.0.1;
       tells = order-tells;
       unchanged = busy_unchanged;
       uncopied = uncopied;

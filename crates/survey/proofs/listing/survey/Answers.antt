@@ -34,13 +34,13 @@ returns-then-places-eq0 g c =
 pub returns-in_err-begin_job : goal.returns-in_err-begin_job
 returns-in_err-begin_job g c =
     let f = c.in_err-begin_job.ensures in
-    rw (exits c.from_residual.ensures.1) (rw f.2
+    rw (exits c.from_residual.ensures.1) (rw f.1
     (record {
-      told = ap (λ d. (d.rig, survey_answer (Err (InExchange (Rig LineBusy))) c.args.places.now)) f.1
-          ∙ survey_busy (length c.args.places.now) (rig_of g.L.Line.chips c.args.rig.now) c.if-places-eq0.false f.0;
-      counted = ap (λ d. d.steps) f.1;
+      told = ap (λ d. (d.rig, survey_answer (Err (InExchange (Rig LineBusy))) c.args.places.now)) f.0.1
+          ∙ survey_busy (length c.args.places.now) (rig_of g.L.Line.chips c.args.rig.now) c.if-places-eq0.false f.0.0;
+      counted = ap (λ d. d.steps) f.0.1;
       later = refl;
-      bytes = ap (λ d. map bytes_of d.rig.line) f.1;
+      bytes = ap (λ d. map bytes_of d.rig.line) f.0.1;
       complete = survey_complete;
       unchanged = busy_unchanged;
       steps = survey_steps;
