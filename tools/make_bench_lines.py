@@ -278,9 +278,9 @@ def edge_rig(lock):
     return sealed_rig(SEALED, image)
 
 
-def fuse_calls(count, mask):
+def fuse_calls(count, mask, new=NEW):
     """An order to a free row that loses power, and what the row holds then."""
-    return [Fuse(count, mask), Order(SEALED, 0x40, NEW), PowerUp(),
+    return [Fuse(count, mask), Order(SEALED, 0x40, new), PowerUp(),
             Reading(SEALED, 0x40)]
 
 
@@ -300,6 +300,27 @@ def edge_lines():
         Order(SEALED, 0x03, NEW)])
     yield "The same protected row in a tag whose byte 84h is 55h."
     yield from told(edge_rig(0x55), [PowerUp(), Order(SEALED, 0x00, OLD)])
+
+
+# A mask with no two bytes alike, and a row that differs from OLD in every bit:
+# where it was programmed under the mask, the row shows the mask.
+MASK = 0x0123_4567_89AB_CDEF
+TURNED = b"\x0F" * ROW_LENGTH
+
+
+def mask_lines():
+    rig = edge_rig(0x00)
+    yield ("An order loses power at its dwell, with a mask of eight different"
+           " bytes.")
+    yield from told(rig, [PowerUp()] + fuse_calls(467, MASK, TURNED))
+    yield ("Slots load the scratchpad for row 0048h and copy it; a cut with"
+           " the same mask stops the programming.")
+    yield from told(rig, [Reset()])
+    send(rig, b"\xCC\x0F\x48\x00" + TURNED)
+    yield from told(rig, [Reset()])
+    send(rig, b"\xCC\x55\x48\x00\x07")
+    yield from told(rig, [
+        Reset(), Cut(MASK), PowerUp(), Reading(SEALED, 0x48)])
 
 
 # ---------------------------------------------------------------------------
@@ -401,6 +422,7 @@ def all_lines():
     yield from task_lines()
     yield from driven_lines()
     yield from edge_lines()
+    yield from mask_lines()
     yield from pair_lines()
     yield from many_lines()
 
@@ -446,6 +468,16 @@ def check_fuses():
     assert row_of(rig, 0x40) == NEW
 
 
+def check_masks():
+    """Byte i of a mask is for byte i of a row, the lowest byte first."""
+    seen = [mask_byte ^ 0xF0 for mask_byte in MASK.to_bytes(8, "little")]
+    rig = powered_edge_rig()
+    rig.set_fuse(467, MASK)
+    assert outcome(rig, SEALED, 0x40, TURNED) == (5, 4, 477, None)
+    assert list(row_of(rig, 0x40)) == seen
+    assert list(mask_lines())[-1].endswith(f": {spaced(seen)}, steps 267.")
+
+
 def check_protection():
     rig = powered_edge_rig()
     assert outcome(rig, SEALED, 0x20, b"\x0F" * 8) == (7, 2, 362, 0)
@@ -476,6 +508,7 @@ def check_everything():
     assert refusal_of(RegistrationNumber, SEALED) is None
     assert refusal_of(RegistrationNumber, WRONG_SEALED) == 1
     check_fuses()
+    check_masks()
     check_protection()
     check_pair()
 

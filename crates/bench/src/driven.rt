@@ -5,7 +5,7 @@ use memory::command::MemoryCommand;
 use number::registration::Number;
 use rig::master::Rig;
 use samples::hex::Hex;
-use samples::numbers::{CLUTCH, GEARBOX, number_of};
+use samples::numbers::{CLUTCH, gearbox_number, number_of};
 use samples::tags::{Tag, tag_of};
 use sealed::tag::SealedTag;
 use sums::sums::crc16;
@@ -23,8 +23,8 @@ struct Driven<'a> {
 // From the number to the row read back, by pulses alone.
 pub fn run(rt: &HostRuntime) -> anyhow::Result<()> {
     rt.println("The same task on a new tag, driven by pulses alone.")?;
-    let number = number_of(GEARBOX)?;
-    let rig = Rig::new(tag_of::<SealedTag>(GEARBOX, &[0xFF; 136])?);
+    let number = gearbox_number();
+    let rig = Rig::new(tag_of::<SealedTag>(number, &[0xFF; 136])?);
     let mut driven = Driven {
         pulses: Pulses { rt, rig },
         number,

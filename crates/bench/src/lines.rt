@@ -5,7 +5,9 @@ use line::ends::Joint;
 use number::registration::Number;
 use plug::practice::PracticePlug;
 use samples::hex::Hex;
-use samples::numbers::{GEARBOX, PLUG, SEALED, WRONG_GEARBOX, WRONG_SEALED, number_of};
+use samples::numbers::{
+    GEARBOX, SEALED, WRONG_GEARBOX, WRONG_SEALED, gearbox_number, plug_number, sealed_number,
+};
 use samples::plugs::many_plugs;
 use samples::tags::{Tag, own_addresses, tag_of};
 use sealed::tag::SealedTag;
@@ -14,10 +16,10 @@ use tag::making::make_tag;
 
 pub fn gearbox(rt: &HostRuntime) -> anyhow::Result<()> {
     tell_numbers(rt)?;
-    let number = number_of(GEARBOX)?;
+    let number = gearbox_number();
     tell_image(rt, number, &[0xFF; 135])?;
     tell_image(rt, number, &[0xFF; 136])?;
-    let tag = tag_of::<SealedTag>(GEARBOX, &[0xFF; 136])?;
+    let tag = tag_of::<SealedTag>(number, &[0xFF; 136])?;
     let mut alone = Alone {
         session: Session::new(rt, tag),
         number,
@@ -59,14 +61,14 @@ fn edge_image(lock: u8) -> [u8; 136] {
 }
 
 pub fn edges(rt: &HostRuntime) -> anyhow::Result<()> {
-    let number = number_of(SEALED)?;
-    let free = tag_of::<SealedTag>(SEALED, &edge_image(0x00))?;
+    let number = sealed_number();
+    let free = tag_of::<SealedTag>(number, &edge_image(0x00))?;
     let mut alone = Alone {
         session: Session::new(rt, free),
         number,
     };
     alone.edges()?;
-    let locked = tag_of::<SealedTag>(SEALED, &edge_image(0x55))?;
+    let locked = tag_of::<SealedTag>(number, &edge_image(0x55))?;
     let mut alone = Alone {
         session: Session::new(rt, locked),
         number,
@@ -75,15 +77,28 @@ pub fn edges(rt: &HostRuntime) -> anyhow::Result<()> {
     Ok(())
 }
 
+pub fn masks(rt: &HostRuntime) -> anyhow::Result<()> {
+    let number = sealed_number();
+    let tag = tag_of::<SealedTag>(number, &edge_image(0x00))?;
+    let mut alone = Alone {
+        session: Session::new(rt, tag),
+        number,
+    };
+    alone.masks()?;
+    Ok(())
+}
+
 // A practice plug of A5h, and a sealed tag in which each byte is its own address.
 pub fn pair(rt: &HostRuntime) -> anyhow::Result<()> {
-    let left = tag_of::<PracticePlug>(PLUG, &[0xA5; 64])?;
-    let right = tag_of::<SealedTag>(SEALED, &own_addresses())?;
+    let plug = plug_number();
+    let sealed = sealed_number();
+    let left = tag_of::<PracticePlug>(plug, &[0xA5; 64])?;
+    let right = tag_of::<SealedTag>(sealed, &own_addresses())?;
     let mut pair = Pair {
         session: Session::new(rt, Joint::new(left, right)),
-        plug: number_of(PLUG)?,
-        sealed: number_of(SEALED)?,
-        absent: number_of(GEARBOX)?,
+        plug,
+        sealed,
+        absent: gearbox_number(),
     };
     pair.run()?;
     Ok(())

@@ -22,6 +22,17 @@ const SUM_ZERO: [u8; 8] = [0x00, 0x00, 0x00, 0x00, 0x00, 0x00, 0x41, 0xF0];
 // The copy of the plug's last row once more: no number, 55h, row 0008h and the status after a copy.
 const COPY_AGAIN: [u8; 5] = [0xCC, 0x55, 0x08, 0x00, 0x87];
 
+// A mask with no two bytes alike.
+const MASK: u64 = 0x0123_4567_89AB_CDEF;
+
+// What differs from `OLD` in every bit, so that a row which took a part of it shows the mask.
+const TURNED: [u8; 8] = [0x0F; 8];
+
+// To the scratchpad: no number, 0Fh, row 0048h, and then the same bytes; and its copy.
+const LOAD: [u8; 4] = [0xCC, 0x0F, 0x48, 0x00];
+
+const COPY: [u8; 5] = [0xCC, 0x55, 0x48, 0x00, 0x07];
+
 fn list(places: usize) -> Call {
     Call::Survey { places }
 }
@@ -92,6 +103,34 @@ impl Alone<'_> {
             order(self.number, 0x88, [0xFF; 8]),
             order(self.number, 0x88, [0x00; 8]),
             order(self.number, 0x03, NEW),
+        ])
+    }
+
+    // The tag's bytes are F0h, and both rows are free.
+    pub fn masks(&mut self) -> io::Result<()> {
+        self.session.rt.println(
+            "An order loses power at its dwell, with a mask of eight different bytes.",
+        )?;
+        self.session.ask(&[
+            Call::PowerUp,
+            fuse(467, MASK),
+            order(self.number, 0x40, TURNED),
+            Call::PowerUp,
+            read(self.number, 0x40),
+        ])?;
+        self.session.rt.println(
+            "Slots load the scratchpad for row 0048h and copy it; a cut with the same mask stops the programming.",
+        )?;
+        self.session.ask(&[Call::Reset])?;
+        self.session.send(&LOAD);
+        self.session.send(&TURNED);
+        self.session.ask(&[Call::Reset])?;
+        self.session.send(&COPY);
+        self.session.ask(&[
+            Call::Reset,
+            Call::Cut(MASK),
+            Call::PowerUp,
+            read(self.number, 0x48),
         ])
     }
 

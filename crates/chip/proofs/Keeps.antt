@@ -1,4 +1,4 @@
--- What the steps of a chip leave of its number and its bytes, and what a chip without power does.
+-- What each event leaves of a chip's number and its bytes, and what a chip without power does.
 use Rattle.std.proofs.Common.{◌≡◌, ℕ, Bool, true, false, List, [], ◌∷◌, ◌++◌, sym, refl, ap, ◌∙◌, arith}
 use Rattle.bits.specs.Bits.{value, same, full, front_bit, rest_bits, spent}
 use Rattle.bits.proofs.Choice.{pick}
@@ -30,7 +30,7 @@ module _ {S : Type 0} (P : Protocol S) where
   take-number (seeking choice bs) rc b c = pick (same (front_bit bs) b) (SameNumber c) (pick (spent (rest_bits bs)) (SameNumber c) refl refl) refl
   take-number selected rc b c = refl
 
--- no step changes a number
+-- no taken bit changes a number
 pub number-taken : (b : Bool) (c : ChipState) → (take_bit b c).number ≡ c.number
 number-taken b c = go c.live
   where

@@ -1,4 +1,4 @@
--- No step of a chip changes its kind.
+-- No event changes a chip's kind.
 use Rattle.std.proofs.Common.{◌≡◌, ℕ, Bool, refl, ◌∙◌}
 use Rattle.bits.proofs.Choice.{pick}
 use Rattle.memory.specs.Memories.{Memory, kind_in}

@@ -7,9 +7,7 @@ use Rattle.memory.proofs.Sound.{SoundMemory, taken_sound, begun_sound, woken_sou
 use Rattle.chip.specs.Chips.{Live, off, on, Phase, idle, command, sending, matching, seeking, itself, opposite, choice, selected, Command, read_number, match_number, seek_number, skip_number, resume, unknown, command_of, obey, take_in, take_live}
 use Rattle.chip.specs.Steps.{ChipState, has_power, is_busy, take_bit, reset_chip, dwell_chip, cut_chip, power_chip}
 use Rattle.chip.specs.Histories.{effects, Met, MetAll}
-use Rattle.chip.specs.Effects.{effect}
-use Rattle.chip.specs.declared.step.Step.{Step}
-use Rattle.chip.specs.declared.step.Step.TheVariants.{Reset, Take, Dwell, Cut, PowerUp}
+use Rattle.chip.specs.Events.{Event, reset_came, bit_came, dwell_came, power_failed, power_came, effect}
 use Rattle.bits.proofs.Choice.{pick}
 use Rattle.chip.proofs.Keeps.{number-taken}
 
@@ -71,16 +69,16 @@ sound_cut mask c s = record { wide = s.wide; checked = s.checked; memory = pick 
 pub sound_power : (c : ChipState) → Sound c → Sound (power_chip c)
 sound_power c s = record { wide = s.wide; checked = s.checked; memory = pick (has_power c) SoundMemory s.memory (woken_sound c.memory s.memory) }
 
-sound_effect : (t : Step) (c : ChipState) → Sound c → Sound (effect t c)
-sound_effect Reset c s = sound_reset c s
-sound_effect (Take b) c s = sound_taken b c s
-sound_effect Dwell c s = sound_dwell c s
-sound_effect (Cut mask) c s = sound_cut mask c s
-sound_effect PowerUp c s = sound_power c s
+sound_effect : (e : Event) (c : ChipState) → Sound c → Sound (effect e c)
+sound_effect reset_came c s = sound_reset c s
+sound_effect (bit_came b) c s = sound_taken b c s
+sound_effect dwell_came c s = sound_dwell c s
+sound_effect (power_failed mask) c s = sound_cut mask c s
+sound_effect power_came c s = sound_power c s
 
-sound_effects : (ts : List Step) (c : ChipState) → Sound c → Sound (effects ts c)
+sound_effects : (es : List Event) (c : ChipState) → Sound c → Sound (effects es c)
 sound_effects [] c s = s
-sound_effects (t ∷ ts) c s = sound_effects ts (effect t c) (sound_effect t c s)
+sound_effects (e ∷ es) c s = sound_effects es (effect e c) (sound_effect e c s)
 
 pub met_sound : (c : ChipState) → Met c → Sound c
 met_sound c m =

@@ -1,7 +1,7 @@
 -- The commands of the code, and their bytes.
-use Rattle.std.specs.Prelude.{ℕ, Ok, Err, Result}
+use Rattle.std.specs.Prelude.{◌≡◌, ℕ, Ok, Err, Result}
 use Rattle.memory.specs.declared.command.UnknownCommand.{UnknownCommand}
-use Rattle.chip.specs.Chips.{Command, read_number, match_number, seek_number, skip_number, resume, unknown}
+use Rattle.chip.specs.Chips.{Command, read_number, match_number, seek_number, skip_number, resume, unknown, command_of}
 use Rattle.chip.specs.declared.command.NumberCommand.{NumberCommand}
 use Rattle.chip.specs.declared.command.NumberCommand.TheVariants.{ReadNumber, MatchNumber, SeekNumber, SkipNumber, Resume}
 
@@ -19,7 +19,7 @@ meant SeekNumber = seek_number
 meant SkipNumber = skip_number
 meant Resume = resume
 
--- a byte's command, if it is one
-abbrev pub command_in : Result NumberCommand UnknownCommand → Command
-command_in (Ok c) = meant c
-command_in (Err e) = unknown
+-- what a byte is taken for: its command; an error carries a byte that is none
+abbrev pub TakenFor : ℕ → Result NumberCommand UnknownCommand → Type 0
+TakenFor byte (Ok command) = meant command ≡ command_of byte
+TakenFor byte (Err e) = (command_of byte ≡ unknown) × (e.0 ≡ byte)

@@ -1,16 +1,15 @@
--- What a chip may have met since its making: nothing but the steps of a line.
+-- What a chip may have met since its making: nothing but the events of a line.
 use Rattle.std.specs.Prelude.{◌≡◌, ◌^◌, ◌<◌, List, [], ◌∷◌}
 use Rattle.number.specs.Numbers.{Checked}
 use Rattle.memory.specs.Memories.{FreshMemory}
 use Rattle.chip.specs.Chips.{off}
 use Rattle.chip.specs.Steps.{ChipState}
-use Rattle.chip.specs.Effects.{effect}
-use Rattle.chip.specs.declared.step.Step.{Step}
+use Rattle.chip.specs.Events.{Event, effect}
 
--- steps one after another
-abbrev pub effects : List Step → ChipState → ChipState
+-- events one after another
+abbrev pub effects : List Event → ChipState → ChipState
 effects [] c = c
-effects (t ∷ ts) c = effects ts (effect t c)
+effects (e ∷ es) c = effects es (effect e c)
 
 -- a chip as it is made: any registration number, any lawful kind, any image, no power
 pub record Fresh (c : ChipState) : Type 0 where
@@ -22,7 +21,7 @@ pub record Fresh (c : ChipState) : Type 0 where
 pub record Met (c : ChipState) : Type 0 where
   pub made : ChipState
   pub fresh : Fresh made
-  pub history : List Step
+  pub history : List Event
   pub so : c ≡ effects history made
 
 abbrev pub MetAll : List ChipState → Type 0

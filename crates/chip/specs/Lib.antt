@@ -3,4 +3,4 @@ pub mod Steps
 pub mod Histories
 pub mod Meaning
 pub mod Commands
-pub mod Effects
+pub mod Events

@@ -1,4 +1,4 @@
--- A chip with a memory of any protocol: its questions and its steps.
+-- A chip with a memory of any protocol: its questions, and what each event makes of it.
 use Rattle.std.specs.Prelude.{ℕ, Bool, true, false, List, [], ◌∷◌, ◌==◌}
 use Rattle.memory.specs.Memories.{Memory, protocols, begin_memory, bytes_in}
 use Rattle.chip.specs.Chips.{ChipOver, Live, powered, off, on, idle, selected, taken, busy, pulled, reset, dwelt, cut, powered_up}

@@ -1,6 +1,6 @@
 ghost use Rattle.std.specs.Prelude.{◌≡◌};
 ghost use Rattle.chip.specs.Chips.{command_of};
-ghost use Rattle.chip.specs.Commands.{byte_of, meant, command_in};
+ghost use Rattle.chip.specs.Commands.{byte_of, meant, TakenFor};
 
 use memory::command::UnknownCommand;
 
@@ -27,7 +27,7 @@ impl NumberCommand {
 impl TryFrom<u8> for NumberCommand {
     type Error = UnknownCommand;
 
-    ghost try_from_gives = { λ byte command. command_in command ≡ command_of byte };
+    ghost try_from_gives = { TakenFor };
 
     fn try_from(byte: u8) -> Result<NumberCommand, UnknownCommand> {
         match byte {

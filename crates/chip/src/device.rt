@@ -1,17 +1,11 @@
-ghost use Rattle.std.specs.Prelude.{◌≡◌, true, false, not, []};
-ghost use Rattle.bits.specs.Bits.{same, front_bit, rest_bits, spent};
+ghost use Rattle.std.specs.Prelude.{◌≡◌};
 ghost use Rattle.memory.specs.Memories.{protocols};
-ghost use Rattle.chip.specs.Chips.{on, at, select, take_in, obey, command, command_of};
-ghost use Rattle.chip.specs.Commands.{meant};
+ghost use Rattle.chip.specs.Chips.{on, at, select, obey, command_of};
 ghost use Rattle.chip.specs.Steps.{made_chip, has_power, is_busy, pull_of, take_bit, reset_chip, dwell_chip, cut_chip, power_chip};
-ghost use Rattle.chip.specs.Effects.{effect};
-ghost use Rattle.chip.specs.Meaning.{model, live_of, phase_of, Onward};
+ghost use Rattle.chip.specs.Meaning.{model, phase_of};
 
-use crate::command::NumberCommand;
 use crate::phase::{Live, RomPhase};
-use crate::step::Step;
 use bits::shift::{Incoming, Outgoing};
-use memory::command::UnknownCommand;
 use memory::protocol::Protocol;
 use number::registration::Number;
 
@@ -84,7 +78,12 @@ impl<P: Protocol> Chip<P> {
         ensures { model P.memory self.new ≡ reset_chip (model P.memory self.old) }
     {
         match self.live {
-            Some(Live { rc, .. }) if !self.is_busy() => self.go(rc, command()),
+            Some(Live { rc, .. }) if !self.is_busy() => self.go(
+                rc,
+                RomPhase::Command {
+                    bits: Incoming::none(),
+                },
+            ),
             _ => {}
         }
     }
@@ -106,54 +105,42 @@ impl<P: Protocol> Chip<P> {
         self.live = None;
     }
 
-    // A step of the chip's line. A step is data, which every line hands on: one arm for each.
-    pub fn step(&mut self, step: Step)
-        ensures { model P.memory self.new ≡ effect step (model P.memory self.old) }
-    {
-        match step {
-            Step::Reset => self.reset(),
-            Step::Take(bit) => self.take(bit),
-            Step::Dwell => self.dwell(),
-            Step::Cut(mask) => self.cut(mask),
-            Step::PowerUp => self.power_up(),
-        }
-    }
-
     // One taken bit.
     pub fn take(&mut self, bit: bool)
         ensures { model P.memory self.new ≡ take_bit bit (model P.memory self.old) }
     {
-        if let Some(Live { rc, phase }) = self.live {
-            self.take_in(rc, phase, bit);
-        }
-    }
-
-    // One bit taken under power, in a phase.
-    fn take_in(&mut self, rc: bool, phase: RomPhase, bit: bool)
-        requires { live_of self.old.live ≡ on rc (phase_of phase) }
-        ensures { model P.memory self.new ≡ take_in protocols (phase_of phase) rc bit (model P.memory self.old) }
-    {
+        let Some(Live { rc, phase }) = self.live else {
+            return;
+        };
         match (phase, bit) {
             (RomPhase::Idle, _) => {}
             (RomPhase::Command { mut bits }, bit) => match bits.push(bit) {
                 None => self.go(rc, RomPhase::Command { bits }),
-                Some(byte) => self.byte(rc, byte),
+                Some(byte) => self.obey(rc, byte),
             },
             (RomPhase::SendNumber { rest }, _) => match rest.next() {
                 Some(rest) => self.go(rc, RomPhase::SendNumber { rest }),
                 None => self.select(rc),
             },
-            (RomPhase::Matching { rest } | RomPhase::SeekChoice { rest }, bit)
-                if differs(rest, bit) => {
-                self.go(rc, RomPhase::Idle);
-            }
-            (RomPhase::Matching { rest }, _) => {
-                self.agree(rc, rest, |rest| RomPhase::Matching { rest });
+            (RomPhase::Matching { rest }, bit) => {
+                if rest.bit() != bit {
+                    self.go(rc, RomPhase::Idle);
+                } else if let Some(rest) = rest.next() {
+                    self.go(rc, RomPhase::Matching { rest });
+                } else {
+                    self.select(true);
+                }
             }
             (RomPhase::SeekItself { rest }, _) => self.go(rc, RomPhase::SeekOpposite { rest }),
             (RomPhase::SeekOpposite { rest }, _) => self.go(rc, RomPhase::SeekChoice { rest }),
-            (RomPhase::SeekChoice { rest }, _) => {
-                self.agree(rc, rest, |rest| RomPhase::SeekItself { rest });
+            (RomPhase::SeekChoice { rest }, bit) => {
+                if rest.bit() != bit {
+                    self.go(rc, RomPhase::Idle);
+                } else if let Some(rest) = rest.next() {
+                    self.go(rc, RomPhase::SeekItself { rest });
+                } else {
+                    self.select(true);
+                }
             }
             (RomPhase::Selected, bit) => self.memory.take(bit),
         }
@@ -175,57 +162,23 @@ impl<P: Protocol> Chip<P> {
         self.memory.begin();
     }
 
-    // A compared bit is the number's: on with the rest of the number, or after its last bit RC and the memory phase.
-    fn agree<F: FnOnce(Outgoing) -> RomPhase>(&mut self, rc: bool, rest: Outgoing, onward: F)
-        requires { F.IsAlwaysCallable onward }
-        ensures last { spent (rest_bits rest) ≡ true → model P.memory self.new ≡ select protocols (model P.memory self.old) true }
-        ensures more { spent (rest_bits rest) ≡ false → Onward (F.post onward (rest_bits rest)) rc (model P.memory self.old) (model P.memory self.new) }
-    {
-        match rest.next() {
-            Some(rest) => self.go(rc, onward(rest)),
-            None => self.select(true),
-        }
-    }
-
-    // A complete byte of the ROM phase.
-    fn byte(&mut self, rc: bool, byte: u8)
+    // A command of the ROM phase.
+    fn obey(&mut self, rc: bool, byte: u8)
         ensures { model P.memory self.new ≡ obey protocols (command_of byte) rc (model P.memory self.old) }
     {
-        match NumberCommand::try_from(byte) {
-            Ok(command) => self.obey(rc, command),
-            Err(UnknownCommand(_)) => self.go(rc, RomPhase::Idle),
-        }
-    }
-
-    // A command of the ROM phase. It is data from the line: one arm for each.
-    fn obey(&mut self, rc: bool, command: NumberCommand)
-        ensures { model P.memory self.new ≡ obey protocols (meant command) rc (model P.memory self.old) }
-    {
         let rest = Outgoing::from(self.number.word());
-        match command {
-            NumberCommand::ReadNumber => self.go(false, RomPhase::SendNumber { rest }),
-            NumberCommand::MatchNumber => self.go(false, RomPhase::Matching { rest }),
-            NumberCommand::SeekNumber => self.go(false, RomPhase::SeekItself { rest }),
-            NumberCommand::SkipNumber => self.select(false),
-            NumberCommand::Resume if rc => self.select(true),
-            NumberCommand::Resume => self.go(false, RomPhase::Idle),
+        match byte {
+            // Read Number.
+            0x33 => self.go(false, RomPhase::SendNumber { rest }),
+            // Match Number.
+            0x55 => self.go(false, RomPhase::Matching { rest }),
+            // Seek Number.
+            0xF0 => self.go(false, RomPhase::SeekItself { rest }),
+            // Skip Number.
+            0xCC => self.select(false),
+            // Resume.
+            0xA5 if rc => self.select(true),
+            _ => self.go(rc, RomPhase::Idle),
         }
     }
-}
-
-// No bit of a command has come.
-fn command() -> RomPhase
-    ensures { phase_of result ≡ command [] }
-{
-    RomPhase::Command {
-        bits: Incoming::none(),
-    }
-}
-
-// A taken bit differs from the next one of the number.
-// A function: in the guard itself the toolchain refuses a method called on what the arm has bound.
-fn differs(rest: Outgoing, bit: bool) -> bool
-    ensures { result ≡ not (same (front_bit rest) bit) }
-{
-    rest.bit() != bit
 }

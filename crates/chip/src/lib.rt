@@ -4,4 +4,3 @@
 pub mod command;
 pub mod device;
 pub mod phase;
-pub mod step;

@@ -19,7 +19,7 @@ use Rattle.chip.specs.Histories.{MetAll}
 use Rattle.line.specs.Lines.{pull}
 use Rattle.rig.specs.Rigs.{RigState, made_rig}
 use Rattle.history.specs.Calls.{Request, reset, slot, Reply, presence_is, bit_is, refused_with, serve_all}
-use Rattle.history.specs.Identity.{GivenAll, Alike, JustUp, TagIsItsBytes}
+use Rattle.history.specs.Identity.{GivenAll, Alike, JustUp, TagIsItsBytes, EndsByBytes}
 use Rattle.history.proofs.Stays.{met_stays}
 
 -- what a chip alone on its line replies
@@ -205,6 +205,13 @@ module _ (r : RigState) (c : ChipState) (j : JustUp r c) where
   up_told : (k : ℕ) → length (bits_all (bytes_of c)) ≡ k → (serve_all (probe k) r).1 ≡ everything c.number (bytes_of c)
   up_told k e = ap (λ t. (serve_all (probe k) t).1) up_is ∙ woken_told c.number c.memory k e
 
+same_rig : (r s : RigState) (c d : ChipState) → JustUp r c → JustUp s d → kind_in c.memory ≡ kind_in d.memory
+    → c.number ≡ d.number → bytes_of c ≡ bytes_of d → r ≡ s
+same_rig r s c d jc jd e n b = jc.so ∙ ap alone (power_same c d (off_powerless c jc.unpowered) (off_powerless d jd.unpowered) n e b) ∙ sym jd.so
+
+pub ends_by_bytes : (r : RigState) (qs : List Request) → EndsByBytes r qs (serve_all qs r)
+ends_by_bytes r qs s c d jc jd e n b = ap (serve_all qs) (same_rig r s c d jc jd e n b)
+
 pub tag_is_its_bytes : TagIsItsBytes
 tag_is_its_bytes r s c d jc jd e = (there, back)
   where
@@ -226,6 +233,4 @@ tag_is_its_bytes r s c d jc jd e = (there, back)
         )
 
     back : (c.number ≡ d.number) × (bytes_of c ≡ bytes_of d) → Alike r s
-    back q qs g =
-        ap (λ t. (serve_all qs t).1)
-        (jc.so ∙ ap alone (power_same c d (off_powerless c jc.unpowered) (off_powerless d jd.unpowered) q.0 e q.1) ∙ sym jd.so)
+    back q qs g = ap (λ t. (serve_all qs t).1) (same_rig r s c d jc jd e q.0 q.1)

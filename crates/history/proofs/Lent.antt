@@ -1,5 +1,5 @@
 -- A survey that is lent no more places than it can fill.
-use Rattle.std.proofs.Common.{◌≡◌, ℕ, zero, suc, ◌+◌, ◌-◌, min, Bool, true, false, eqb, List, [], ◌∷◌, ◌++◌, length, take, drop, Ok, Err, Result, sym, refl, ap, ◌∙◌, subst, ap₂, arith}
+use Rattle.std.proofs.Common.{◌≡◌, ◌↔◌, ℕ, zero, suc, ◌+◌, ◌-◌, min, Bool, true, false, eqb, List, [], ◌∷◌, ◌++◌, length, take, drop, Ok, Err, Result, sym, refl, ap, ◌∙◌, subst, ap₂, arith}
 use Rattle.std.proofs.lemmas.List.{length-append, length-take, take-append-le}
 use Rattle.std.proofs.lemmas.Bool.{eq-eqb, ne_eqb}
 use Rattle.bits.specs.Bits.{value, bits_of}
@@ -16,6 +16,9 @@ use Rattle.survey.specs.declared.fault.SurveyFault.TheVariants.{NoPlace, Full, E
 use Rattle.survey.proofs.Complete.{Out, going, seeks, after_reset}
 use Rattle.survey.proofs.Unrefused.{leaves_triples}
 use Rattle.history.specs.Calls.{survey, Reply, listed, serve}
+use Rattle.history.specs.Meaning.{lists, form_of, form_asked}
+use Rattle.history.specs.declared.calls.Answer.TheVariants.{Listed}
+use Rattle.history.specs.declared.calls.Call.TheVariants.{Survey}
 
 -- a list is as long as its answer says: one number for each pass, and none for a pass that failed
 abbrev Counts : ℕ → ℕ → List ℕ → Type 0
@@ -116,3 +119,15 @@ later_longer (Err NoPlace) l m x h e = ap (λ k. k ++ x) e
 later_longer (Err (Full p s)) l m x h e = drop_longer p l m x h e
 later_longer (Err (InExchange (Rig f))) l m x h e = ap (λ k. k ++ x) e
 later_longer (Err (InExchange (Failed why e s))) l m x h q = drop_longer (e - 1) l m x h q
+
+-- it is told that it has no place exactly where it has none
+listing : (r : Result (ℕ × ℕ) SurveyFault) (l : List ℕ) → (r ≡ Err NoPlace → ⊥) → form_of (Listed r l) ≡ lists
+listing (Ok a) l n = refl
+listing (Err NoPlace) l n = absurd (n refl)
+listing (Err (Full p s)) l n = refl
+listing (Err (InExchange e)) l n = refl
+
+pub lent_form : (places lent : ℕ) (r : Result (ℕ × ℕ) SurveyFault) (l : List ℕ) → lent ≡ min places most_places
+    → (r ≡ Err NoPlace) ↔ (lent ≡ 0) → form_of (Listed r l) ≡ form_asked (Survey places)
+lent_form zero lent r l e h = ap (λ o. form_of (Listed o l)) (h.1 (omega arith))
+lent_form (suc n) lent r l e h = listing r l (λ q. let none = h.0 q in omega arith)

@@ -1,20 +1,17 @@
--- What every step of a chip keeps, every list of calls on a line of chips keeps, at each of its moments.
+-- What every event of a chip keeps, every list of calls on a line of chips keeps, at each of its moments.
 use Rattle.std.proofs.Common.{◌≡◌, ℕ, zero, suc, ◌%◌, Bool, true, false, ◌&&◌, eqb, List, [], ◌∷◌, ◌++◌, map, refl, subst}
 use Rattle.bits.proofs.Choice.{pick}
 use Rattle.kind.specs.Kinds.{row_length}
 use Rattle.chip.specs.Steps.{ChipState}
-use Rattle.chip.specs.Effects.{effect}
-use Rattle.chip.specs.declared.step.Step.{Step}
-use Rattle.chip.specs.declared.step.Step.TheVariants.{Reset, Take, Dwell, Cut, PowerUp}
+use Rattle.chip.specs.Events.{Event, reset_came, bit_came, dwell_came, power_failed, power_came, effect}
 use Rattle.line.specs.Lines.{pull}
 use Rattle.rig.specs.Rigs.{RigState, FuseState, none, after, Pulse, resets, slots, dwells, act, pulse_by, pulse, refused, counted}
 use Rattle.wire.specs.Jobs.{Job, ret, step, Ran, line_busy, run, refused_as, report_of}
-use Rattle.wire.specs.Laws.{states}
+use Rattle.wire.specs.Laws.{Along, states}
 use Rattle.reading.specs.Readings.{reading}
 use Rattle.survey.specs.Surveys.{passes, room_of, listed}
 use Rattle.order.specs.Orders.{ordering, verdict_of, refuses}
 use Rattle.history.specs.Calls.{Request, reset, slot, dwell, cut, power_up, fuse, survey, read, order, Reply, presence_is, bit_is, done, stepped, serve, serve_all, within, moments}
-use Rattle.history.specs.Laws.{Along}
 
 -- P holds of each chip at each moment, and R from each chip to the next moment's
 module _ (P : ChipState → Type 0) (R : ChipState → ChipState → Type 0) where
@@ -48,25 +45,25 @@ module _ (P : ChipState → Type 0) (R : ChipState → ChipState → Type 0) whe
   along_trans trans (c ∷ cs) (d ∷ ds) [] h g = g
   along_trans trans (c ∷ cs) (d ∷ ds) (e ∷ es) h g = (trans c d e h.0 g.0, along_trans trans cs ds es h.1 g.1)
 
-  module _ (self : (c : ChipState) → R c c) (keeps : (t : Step) (c : ChipState) → P c → P (effect t c) × R c (effect t c)) where
+  module _ (self : (c : ChipState) → R c c) (keeps : (e : Event) (c : ChipState) → P c → P (effect e c) × R c (effect e c)) where
     pub onward_self : (l : List ChipState) → Each l → Onward l l
     onward_self l e = (e, along_self self l)
 
-    -- the same step of all chips
-    pub onward-effect : (t : Step) (l : List ChipState) → Each l → Onward l (map (effect t) l)
+    -- the same event for all chips
+    pub onward-effect : (t : Event) (l : List ChipState) → Each l → Onward l (map (effect t) l)
     onward-effect t [] e = (tt, tt)
     onward-effect t (c ∷ cs) e =
         let one = keeps t c e.0 in let rest = onward-effect t cs e.1 in ((one.0, rest.0), (one.1, rest.1))
 
     onward-act : (p : Pulse) (l : List ChipState) → Each l → Onward l (act p l)
-    onward-act resets l e = onward-effect Reset l e
-    onward-act (slots b) l e = onward-effect (Take (b && pull l)) l e
-    onward-act dwells l e = onward-effect Dwell l e
+    onward-act resets l e = onward-effect reset_came l e
+    onward-act (slots b) l e = onward-effect (bit_came (b && pull l)) l e
+    onward-act dwells l e = onward-effect dwell_came l e
 
     -- a pulse with any fuse
     pub onward-pulse : (f : FuseState) (p : Pulse) (l : List ChipState) → Each l → Onward l (pulse_by f p l).0.line
     onward-pulse none p l e = onward-act p l e
-    onward-pulse (after zero mask) p l e = onward-effect (Cut mask) l e
+    onward-pulse (after zero mask) p l e = onward-effect (power_failed mask) l e
     onward-pulse (after (suc n) mask) p l e = onward-act p l e
 
     -- any job, from step to step
@@ -125,8 +122,8 @@ module _ (P : ChipState → Type 0) (R : ChipState → ChipState → Type 0) whe
     chain_call reset r us e h = let o = onward-stepped resets presence_is r e in (o, h o.0)
     chain_call (slot b) r us e h = let o = onward-stepped (slots b) bit_is r e in (o, h o.0)
     chain_call dwell r us e h = let o = onward-stepped dwells (λ _. done) r e in (o, h o.0)
-    chain_call (cut mask) r us e h = let o = onward-effect (Cut mask) r.line e in (o, h o.0)
-    chain_call power_up r us e h = let o = onward-effect PowerUp r.line e in (o, h o.0)
+    chain_call (cut mask) r us e h = let o = onward-effect (power_failed mask) r.line e in (o, h o.0)
+    chain_call power_up r us e h = let o = onward-effect power_came r.line e in (o, h o.0)
     chain_call (fuse count mask) r us e h = (onward_self r.line e, h e)
     chain_call (survey places) r us e h =
         let w = way-survey places r e in
@@ -150,8 +147,8 @@ module _ (P : ChipState → Type 0) (R : ChipState → ChipState → Type 0) whe
       onward-serve reset r e = onward-stepped resets presence_is r e
       onward-serve (slot b) r e = onward-stepped (slots b) bit_is r e
       onward-serve dwell r e = onward-stepped dwells (λ _. done) r e
-      onward-serve (cut mask) r e = onward-effect (Cut mask) r.line e
-      onward-serve power_up r e = onward-effect PowerUp r.line e
+      onward-serve (cut mask) r e = onward-effect (power_failed mask) r.line e
+      onward-serve power_up r e = onward-effect power_came r.line e
       onward-serve (fuse count mask) r e = onward_self r.line e
       onward-serve (survey places) r e = way_ends trans r (within (survey places) r) (serve (survey places) r).0 e (way-survey places r e)
       onward-serve (read x row) r e = way_ends trans r (within (read x row) r) (serve (read x row) r).0 e (way-read x row r e)

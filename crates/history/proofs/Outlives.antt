@@ -1,10 +1,10 @@
 -- Protection outlives everything: from each moment of a history to every later one.
+use Rattle.wire.specs.Laws.{Along}
 use Rattle.std.proofs.Common.{List, [], ◌∷◌}
 use Rattle.chip.specs.Steps.{ChipState}
 use Rattle.chip.specs.Histories.{MetAll}
 use Rattle.rig.specs.Rigs.{RigState, made_rig}
 use Rattle.history.specs.Calls.{Request, moments}
-use Rattle.history.specs.Laws.{Along}
 use Rattle.history.specs.Promises.{Preserves, Outlives, Always, ProtectionOutlives}
 use Rattle.history.proofs.Preserved.{Safe, met_safe, effect_preserves, preserves_self, preserves_trans}
 use Rattle.history.proofs.Moments.{Each, Chain, along_self, along_trans, chain_moments}

@@ -1,4 +1,4 @@
--- Every step of a sealed tag keeps what is protected then.
+-- Every event of a sealed tag keeps what is protected then.
 use Rattle.std.proofs.Common.{◌≡◌, ℕ, Bool, true, false, List, [], ◌∷◌, sym, refl, ap, ◌∙◌, subst, true≢false}
 use Rattle.bits.proofs.Choice.{pick}
 use Rattle.kind.specs.Kinds.{whole_row, program}
@@ -11,9 +11,7 @@ use Rattle.memory.proofs.Sound.{SoundMemory, begun_sound, taken_sound}
 use Rattle.memory.proofs.Ready.{ReadyPad, begun_ready, woken_ready, taken_ready, burnt_each, dwelt_ready}
 use Rattle.chip.specs.Steps.{ChipState, bytes_of, has_power, is_busy, take_bit, reset_chip, dwell_chip, cut_chip, power_chip}
 use Rattle.chip.specs.Histories.{effects, Met}
-use Rattle.chip.specs.Effects.{effect}
-use Rattle.chip.specs.declared.step.Step.{Step}
-use Rattle.chip.specs.declared.step.Step.TheVariants.{Reset, Take, Dwell, Cut, PowerUp}
+use Rattle.chip.specs.Events.{Event, reset_came, bit_came, dwell_came, power_failed, power_came, effect}
 use Rattle.chip.proofs.Keeps.{number-taken, bytes_taken, bytes_power, bytes_dwell_idle, bytes_dwell_busy, bytes_cut_idle, bytes_cut_busy, off_powerless, off-busy, off-taken, off-reset}
 use Rattle.chip.proofs.SameKind.{kind_taken, kind_dwell, kind_cut, kind_power}
 use Rattle.chip.proofs.Sound.{Sound, sound_taken, sound_reset, sound_dwell, sound_cut, sound_power, met_sound, taken_keeps}
@@ -64,7 +62,7 @@ keeps_burnt (padded p) mask s h e =
     burnt_each Suits (Keeps p.bytes) p mask (h e)
     (λ fit. keeps_program p.bytes p.rules.w (row_of p.work.regs) p.work.regs.pad mask s.small fit) (keeps_self p.bytes)
 
--- a chip's steps are safe
+-- each event leaves a chip safe
 safe_taken : (b : Bool) (c : ChipState) → Safe c → Safe (take_bit b c)
 safe_taken b c s = go (has_power c) refl
   where
@@ -98,7 +96,7 @@ safe_power c s = record { sound = sound_power c s.sound; ready = λ _. go (has_p
     go true e = s.ready e
     go false e = ready_woken c.memory
 
--- what a chip's steps keep
+-- what each event keeps
 keeps_same : (c d : ChipState) → bytes_of d ≡ bytes_of c → Keeps (bytes_of c) (bytes_of d)
 keeps_same c d e = subst (Keeps (bytes_of c)) (sym e) (keeps_self (bytes_of c))
 
@@ -127,16 +125,16 @@ keeps_cut mask c s e = go (is_busy c) refl
     go true h = subst (Keeps (bytes_of c)) (sym (bytes_cut_busy mask c h)) (keeps_programmed mask c s h e)
     go false h = keeps_same c (cut_chip mask c) (bytes_cut_idle mask c h)
 
-pub effect_preserves : (t : Step) (c : ChipState) → Safe c → Safe (effect t c) × Preserves c (effect t c)
-effect_preserves Reset c s =
+pub effect_preserves : (e : Event) (c : ChipState) → Safe c → Safe (effect e c) × Preserves c (effect e c)
+effect_preserves reset_came c s =
     (safe_reset c s, record { number = refl; kind = refl; bytes = λ _. keeps_self (bytes_of c) })
-effect_preserves (Take b) c s =
+effect_preserves (bit_came b) c s =
     (safe_taken b c s, record { number = number-taken b c; kind = kind_taken c b; bytes = λ _. keeps_same c (take_bit b c) (bytes_taken b c) })
-effect_preserves Dwell c s =
+effect_preserves dwell_came c s =
     (safe_dwell c s, record { number = refl; kind = kind_dwell c; bytes = keeps_dwell c s })
-effect_preserves (Cut mask) c s =
+effect_preserves (power_failed mask) c s =
     (safe_cut mask c s, record { number = refl; kind = kind_cut c mask; bytes = keeps_cut mask c s })
-effect_preserves PowerUp c s =
+effect_preserves power_came c s =
     (safe_power c s, record { number = refl; kind = kind_power c; bytes = λ _. keeps_same c (power_chip c) (bytes_power c) })
 
 pub preserves_self : (c : ChipState) → Preserves c c
@@ -150,9 +148,9 @@ preserves_trans c d e g h = record {
 }
 
 -- from the making on
-effects_safe : (ts : List Step) (c : ChipState) → Safe c → Safe (effects ts c)
+effects_safe : (es : List Event) (c : ChipState) → Safe c → Safe (effects es c)
 effects_safe [] c s = s
-effects_safe (t ∷ ts) c s = effects_safe ts (effect t c) (effect_preserves t c s).0
+effects_safe (e ∷ es) c s = effects_safe es (effect e c) (effect_preserves e c s).0
 
 pub met_safe : (c : ChipState) → Met c → Safe c
 met_safe c m =

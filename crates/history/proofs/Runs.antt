@@ -1,11 +1,16 @@
 -- Lists of calls.
-use Rattle.std.proofs.Common.{◌≡◌, ℕ, ◌+◌, ◌<◌, List, [], ◌∷◌, ◌++◌, map, length, get_or, take, set, sym, refl, ap, ◌∙◌, subst, arith}
+use Rattle.std.proofs.Common.{◌≡◌, ℕ, ◌+◌, ◌<◌, List, [], ◌∷◌, ◌++◌, map, length, get_or, take, set, sym, refl, ap, ◌∙◌, subst, ap₂, arith}
 use Rattle.std.proofs.lemmas.List.{take_more, take_more_set, map_push, length-take}
 use Rattle.rig.specs.Rigs.{RigState}
 use Rattle.history.specs.declared.calls.Call.{Call}
 use Rattle.history.specs.declared.calls.Answer.{Answer}
-use Rattle.history.specs.Meaning.{request_of, reply_of, call_count, tally, Unfilled, AllUnfilled}
+use Rattle.history.specs.Meaning.{request_of, reply_of, form_of, form_asked, call_count, tally, Unfilled, AllUnfilled}
 use Rattle.history.specs.Calls.{Reply, run_all, serve, serve_all}
+
+-- one more of what is asked of the first
+pub map_more : {C Q : Type 0} (ask : C → Q) (calls : List C) (i : ℕ) (d : C) → i < length calls
+    → map ask (take (i + 1) calls) ≡ map ask (take i calls) ++ (ask (get_or calls i d) ∷ [])
+map_more ask calls i d h = ap (map ask) (take_more calls i d h) ∙ map_push ask (take i calls) (get_or calls i d)
 
 module _ {S Q A : Type 0} (f : Q → S → S × A) where
   -- one more at the end
@@ -27,7 +32,7 @@ module _ {S Q A : Type 0} (f : Q → S → S × A) where
       ∙ ap (λ (u : S × A). (u.0, map say (take i answers) ++ (u.1 ∷ []))) one
       ∙ ap (λ (u : S × List A). more u (ask (get_or calls i d))) before
       ∙ sym (run_push (map ask (take i calls)) (ask (get_or calls i d)) r)
-      ∙ ap (λ l. run_all f l r) (sym (ap (map ask) (take_more calls i d hc) ∙ map_push ask (take i calls) (get_or calls i d)))
+      ∙ ap (λ l. run_all f l r) (sym (map_more ask calls i d hc))
 
 -- the first n calls have been played
 abbrev pub Played : RigState → ℕ → List Answer → List Call → RigState → Type 0
@@ -37,6 +42,15 @@ Played s n answers calls r = ◌≡◌ {A = RigState × List Reply} (s, map repl
 pub played_more : (calls : List Call) (answers : List Answer) (i : ℕ) (q : Call) (a : Answer) (r s t : RigState) → i < length calls → i < length answers
     → Played s i answers calls r → ◌≡◌ {A = RigState × Reply} (t, reply_of a) (serve (request_of q) s) → q ≡ get_or calls i q → Played t (i + 1) (set answers i a) calls r
 played_more calls answers i q a r s t hc ha before one at = turn serve request_of reply_of calls answers i q a r s t hc ha before (one ∙ ap (λ c. serve (request_of c) s) at)
+
+-- the answers so far have the forms of their calls, and so has one more
+pub forms_more : (calls : List Call) (answers : List Answer) (i : ℕ) (q : Call) (a : Answer) → i < length calls → i < length answers
+    → map form_of (take i answers) ≡ map form_asked (take i calls) → form_of a ≡ form_asked q → q ≡ get_or calls i q
+    → map form_of (take (i + 1) (set answers i a)) ≡ map form_asked (take (i + 1) calls)
+forms_more calls answers i q a hc ha before one at =
+    ap (map form_of) (take_more_set answers i a ha) ∙ map_push form_of (take i answers) a
+    ∙ ap₂ (λ fs x. fs ++ (x ∷ [])) before (one ∙ ap form_asked at)
+    ∙ sym (map_more form_asked calls i q hc)
 
 -- what the rig has counted after one call more
 tally_push : (qs : List Call) (rs : List Answer) (q : Call) (a : Answer) (n : ℕ) → length qs ≡ length rs → tally (qs ++ (q ∷ [])) (rs ++ (a ∷ [])) n ≡ call_count q a (tally qs rs n)

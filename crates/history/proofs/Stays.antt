@@ -3,13 +3,12 @@ use Rattle.std.proofs.Common.{◌≡◌, ℕ, Bool, true, false, List, [], ◌�
 use Rattle.kind.specs.Kinds.{whole_row}
 use Rattle.chip.specs.Steps.{ChipState, is_busy, dwell_chip, cut_chip}
 use Rattle.chip.specs.Histories.{effects, Met, MetAll}
-use Rattle.chip.specs.Effects.{effect}
-use Rattle.chip.specs.declared.step.Step.{Step}
-use Rattle.chip.specs.declared.step.Step.TheVariants.{Reset, Take, Dwell, Cut, PowerUp}
+use Rattle.chip.specs.Events.{Event, reset_came, bit_came, dwell_came, power_failed, power_came, effect}
 use Rattle.chip.proofs.Keeps.{number-taken, bytes_taken, bytes_reset, bytes_power, bytes_dwell_idle, bytes_dwell_busy, bytes_cut_idle, bytes_cut_busy, off_powerless, power_same}
 use Rattle.rig.specs.Rigs.{RigState}
 use Rattle.history.specs.Calls.{Request, reset, slot, dwell, cut, power_up, fuse, survey, read, order, serve, moments}
-use Rattle.history.specs.Laws.{Along, Stepwise, Change, same, programmed, NumbersStay, Plain, OnlyProgramming, StepsOnlyProgram, PowerUpForgets, MetStays}
+use Rattle.wire.specs.Laws.{Along}
+use Rattle.history.specs.Laws.{Stepwise, Change, same, programmed, NumbersStay, Plain, OnlyProgramming, StepsOnlyProgram, PowerUpForgets, MetStays}
 use Rattle.history.proofs.Moments.{Each, Chain, chain_moments, onward_all}
 
 -- nothing is asked of a chip
@@ -24,12 +23,12 @@ Free c d = Unit {0}
 abbrev SameNumber : ChipState → ChipState → Type 0
 SameNumber c d = d.number ≡ c.number
 
-number-effect : (t : Step) (c : ChipState) → Any c → Any (effect t c) × SameNumber c (effect t c)
-number-effect Reset c u = (tt, refl)
-number-effect (Take b) c u = (tt, number-taken b c)
-number-effect Dwell c u = (tt, refl)
-number-effect (Cut mask) c u = (tt, refl)
-number-effect PowerUp c u = (tt, refl)
+number-effect : (e : Event) (c : ChipState) → Any c → Any (effect e c) × SameNumber c (effect e c)
+number-effect reset_came c u = (tt, refl)
+number-effect (bit_came b) c u = (tt, number-taken b c)
+number-effect dwell_came c u = (tt, refl)
+number-effect (power_failed mask) c u = (tt, refl)
+number-effect power_came c u = (tt, refl)
 
 any_each : (R : ChipState → ChipState → Type 0) (l : List ChipState) → Each Any R l
 any_each R [] = tt
@@ -59,12 +58,12 @@ change_cut mask c = go (is_busy c) refl
     go true h = programmed mask h (bytes_cut_busy mask c h)
     go false h = same (bytes_cut_idle mask c h)
 
-change_effect : (t : Step) (c : ChipState) → Any c → Any (effect t c) × Change c (effect t c)
-change_effect Reset c u = (tt, same (bytes_reset c))
-change_effect (Take b) c u = (tt, same (bytes_taken b c))
-change_effect Dwell c u = (tt, change_dwell c)
-change_effect (Cut mask) c u = (tt, change_cut mask c)
-change_effect PowerUp c u = (tt, same (bytes_power c))
+change_effect : (e : Event) (c : ChipState) → Any c → Any (effect e c) × Change c (effect e c)
+change_effect reset_came c u = (tt, same (bytes_reset c))
+change_effect (bit_came b) c u = (tt, same (bytes_taken b c))
+change_effect dwell_came c u = (tt, change_dwell c)
+change_effect (power_failed mask) c u = (tt, change_cut mask c)
+change_effect power_came c u = (tt, same (bytes_power c))
 
 stepwise : (R : ChipState → ChipState → Type 0) (r : RigState) (ss : List RigState) → Chain Any R r ss → Stepwise R r ss
 stepwise R r [] c = tt
@@ -91,16 +90,16 @@ pub power_up_forgets : PowerUpForgets
 power_up_forgets c d e f n k b = power_same c d (off_powerless c e) (off_powerless d f) n k b
 
 -- what chips have met
-one_more : (ts : List Step) (t : Step) (c : ChipState) → effects (ts ++ (t ∷ [])) c ≡ effect t (effects ts c)
-one_more [] t c = refl
-one_more (s ∷ ts) t c = one_more ts t (effect s c)
+one_more : (ds : List Event) (e : Event) (c : ChipState) → effects (ds ++ (e ∷ [])) c ≡ effect e (effects ds c)
+one_more [] e c = refl
+one_more (d ∷ ds) e c = one_more ds e (effect d c)
 
-met_on : (t : Step) (c : ChipState) → Met c → Met (effect t c)
-met_on t c m = record {
+met_on : (e : Event) (c : ChipState) → Met c → Met (effect e c)
+met_on e c m = record {
   made = m.made;
   fresh = m.fresh;
-  history = m.history ++ (t ∷ []);
-  so = ap (effect t) m.so ∙ sym (one_more m.history t m.made);
+  history = m.history ++ (e ∷ []);
+  so = ap (effect e) m.so ∙ sym (one_more m.history e m.made);
 }
 
 met_each : (l : List ChipState) → MetAll l → Each Met Free l

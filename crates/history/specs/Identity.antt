@@ -6,7 +6,7 @@ use Rattle.memory.specs.Memories.{kind_in}
 use Rattle.chip.specs.Steps.{ChipState, bytes_of, has_power}
 use Rattle.chip.specs.Histories.{Met}
 use Rattle.rig.specs.Rigs.{RigState, made_rig, power_rig}
-use Rattle.history.specs.Calls.{Request, reset, slot, dwell, cut, power_up, fuse, survey, read, order, serve_all}
+use Rattle.history.specs.Calls.{Request, reset, slot, dwell, cut, power_up, fuse, survey, read, order, Reply, serve_all}
 
 -- arguments that a master can give: words of 64 bits, registration numbers, addresses of 16 bits, rows of bytes
 abbrev pub Given : Request → Type 0
@@ -37,8 +37,19 @@ pub record JustUp (r : RigState) (c : ChipState) : Type 0 where
   pub was : (serve_all history (made_rig (made ∷ []))).0 ≡ made_rig (c ∷ [])
   pub so : r ≡ power_rig (made_rig (c ∷ []))
 
+-- of this rig: if its only chip was just powered up, it and another such rig, with a chip of that kind, are alike exactly when the numbers and the bytes are equal
+abbrev pub KnownByBytes : RigState → Type 0
+KnownByBytes r =
+    (s : RigState) (c d : ChipState) → JustUp r c → JustUp s d → kind_in c.memory ≡ kind_in d.memory
+    → Alike r s ↔ ((c.number ≡ d.number) × (bytes_of c ≡ bytes_of d))
+
 -- two tags of one kind, each alone on its line, are alike from then on exactly when their numbers and their bytes are equal
 abbrev pub TagIsItsBytes : Type 0
-TagIsItsBytes =
-    (r s : RigState) (c d : ChipState) → JustUp r c → JustUp s d → kind_in c.memory ≡ kind_in d.memory
-    → Alike r s ↔ ((c.number ≡ d.number) × (bytes_of c ≡ bytes_of d))
+TagIsItsBytes = (r : RigState) → KnownByBytes r
+
+-- of this rig and these calls: if its only chip was just powered up, they lead to the same rig and the same replies
+-- as on every such rig whose chip has that kind, that number and those bytes
+abbrev pub EndsByBytes : RigState → List Request → RigState × List Reply → Type 0
+EndsByBytes r qs ends =
+    (s : RigState) (c d : ChipState) → JustUp r c → JustUp s d → kind_in c.memory ≡ kind_in d.memory
+    → c.number ≡ d.number → bytes_of c ≡ bytes_of d → ends ≡ serve_all qs s

@@ -7,6 +7,7 @@ use Rattle.chip.specs.Histories.{MetAll}
 use Rattle.line.specs.Lines.{presence}
 use Rattle.rig.specs.Rigs.{RigState}
 use Rattle.wire.specs.Jobs.{refused_as}
+use Rattle.wire.specs.Laws.{Along}
 use Rattle.order.specs.Orders.{refuses}
 use Rattle.history.specs.Calls.{Request, reset, slot, dwell, cut, power_up, fuse, survey, read, order, Reply, presence_is, bit_is, done, listed, row_is, judged_as, serve, serve_all, moments}
 
@@ -22,13 +23,6 @@ NumbersStay = (r : RigState) (qs : List Request) → numbers (serve_all qs r).0 
 pub data Change (c d : ChipState) : Type 0 where
   same : bytes_of d ≡ bytes_of c → Change c d
   programmed : (mask : ℕ) → is_busy c ≡ true → bytes_of d ≡ bytes_in (burn_memory c.memory mask) → Change c d
-
--- chip by chip, in their sequence
-abbrev pub Along : (ChipState → ChipState → Type 0) → List ChipState → List ChipState → Type 0
-Along R [] [] = Unit {0}
-Along R [] (d ∷ ds) = ⊥
-Along R (c ∷ cs) [] = ⊥
-Along R (c ∷ cs) (d ∷ ds) = R c d × Along R cs ds
 
 -- from each moment to the next
 abbrev pub Stepwise : (ChipState → ChipState → Type 0) → RigState → List RigState → Type 0

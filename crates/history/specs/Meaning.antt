@@ -1,11 +1,12 @@
 -- What the calls and answers of the code mean.
-use Rattle.std.specs.Prelude.{ℕ, Ok, Err, List, [], ◌∷◌, replicate}
+use Rattle.std.specs.Prelude.{ℕ, zero, suc, Ok, Err, List, [], ◌∷◌, replicate}
 use Rattle.rig.specs.Meaning.{refusal}
 use Rattle.rig.specs.Rigs.{counted}
 use Rattle.wire.specs.Jobs.{answered}
 use Rattle.reading.specs.Meaning.{read_report, read_count}
 use Rattle.survey.specs.Listing.{survey_answer, survey_count, Later}
 use Rattle.survey.specs.Surveys.{most_places}
+use Rattle.survey.specs.declared.fault.SurveyFault.TheVariants.{NoPlace}
 use Rattle.order.specs.Meaning.{order_verdict, order_count}
 use Rattle.history.specs.Calls.{Request, reset, slot, dwell, cut, power_up, fuse, survey, read, order, Reply, presence_is, bit_is, done, refused_with, listed, row_is, judged_as}
 use Rattle.history.specs.declared.calls.Call.{Call}
@@ -34,6 +35,37 @@ reply_of (Listed outcome places) = listed (survey_answer outcome places)
 reply_of (Row (Ok a)) = row_is (answered a.0 a.1)
 reply_of (Row (Err f)) = row_is (read_report (Err f) [])
 reply_of (Judged outcome) = judged_as (order_verdict outcome)
+
+-- the form of an answer, and the form that every answer to a call has, a refusal too; a survey that has no place is told so
+pub data Form : Type 0 where
+  presences : Form
+  bits : Form
+  dones : Form
+  placeless : Form
+  lists : Form
+  rows : Form
+  verdicts : Form
+
+abbrev pub form_of : Answer → Form
+form_of (Presence r) = presences
+form_of (Bit r) = bits
+form_of Done = dones
+form_of (Listed (Err NoPlace) places) = placeless
+form_of (Listed outcome places) = lists
+form_of (Row r) = rows
+form_of (Judged outcome) = verdicts
+
+abbrev pub form_asked : Call → Form
+form_asked Reset = presences
+form_asked (Slot bit) = bits
+form_asked Dwell = dones
+form_asked (Cut mask) = dones
+form_asked PowerUp = dones
+form_asked (SetFuse f) = dones
+form_asked (Survey zero) = placeless
+form_asked (Survey (suc places)) = lists
+form_asked (Read number row) = rows
+form_asked (Order number row new) = verdicts
 
 -- what the rig has counted after an answer: a step more, or the steps that a job answers; a call refused before any step leaves the count
 abbrev pub answer_count : Answer → ℕ → ℕ

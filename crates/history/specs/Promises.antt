@@ -6,11 +6,10 @@ use Rattle.sealed.specs.Protection.{Keeps}
 use Rattle.chip.specs.Steps.{ChipState, bytes_of}
 use Rattle.chip.specs.Histories.{MetAll}
 use Rattle.rig.specs.Rigs.{RigState, made_rig}
-use Rattle.wire.specs.Laws.{Single}
+use Rattle.wire.specs.Laws.{Along, Single}
 use Rattle.order.specs.Orders.{order_call}
 use Rattle.order.specs.Laws.{Began, Tells}
-use Rattle.history.specs.Calls.{Request, order, serve_all, moments}
-use Rattle.history.specs.Laws.{Along}
+use Rattle.history.specs.Calls.{Request, order, serve, serve_all, moments}
 use Rattle.history.specs.Identity.{Given, TagIsItsBytes}
 
 -- what one moment allows a chip at a later one: number and kind stay, and a sealed tag keeps what is protected
@@ -38,11 +37,21 @@ after_all l qs = (serve_all qs (made_rig l)).0
 abbrev pub ProtectionOutlives : Type 0
 ProtectionOutlives = (l : List ChipState) → MetAll l → (qs : List Request) → Always (made_rig l ∷ moments qs (made_rig l))
 
+-- what the verdict tells of one call, if that is an order that began and whose number exactly one chip has
+abbrev pub VerdictTrue : Request → RigState → Type 0
+VerdictTrue (order x row new) r = Began (order_call x row new r).1 → Single x r.line → Tells x row new r
+VerdictTrue q r = Unit {0}
+
+-- and of each call of a list, at the rig as those before it left it
+abbrev pub VerdictsTrue : List Request → RigState → Type 0
+VerdictsTrue [] r = Unit {0}
+VerdictsTrue (q ∷ qs) r = VerdictTrue q r × VerdictsTrue qs (serve q r).0
+
 -- the verdict is the truth: of an order after any history, that began, and whose number exactly one chip has
 abbrev pub VerdictIsTrue : Type 0
 VerdictIsTrue =
     (l : List ChipState) → MetAll l → (qs : List Request) (x row : ℕ) (new : List ℕ) → Given (order x row new)
-    → Began (order_call x row new (after_all l qs)).1 → Single x (after_all l qs).line → Tells x row new (after_all l qs)
+    → VerdictTrue (order x row new) (after_all l qs)
 
 -- the three promises
 pub record Promises : Type 0 where

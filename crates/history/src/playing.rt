@@ -3,9 +3,10 @@ ghost use Rattle.rig.specs.Meaning.{rig_of, counting};
 ghost use Rattle.chip.specs.Histories.{MetAll};
 ghost use Rattle.history.specs.Calls.{serve, serve_all, moments};
 ghost use Rattle.history.specs.Edges.{EdgeRuns};
+ghost use Rattle.history.specs.Identity.{KnownByBytes, EndsByBytes};
 ghost use Rattle.history.specs.Laws.{numbers, NumbersStay, OnlyProgramming, StepsOnlyProgram, SilentUnpowered, PowerUpForgets, MetStays};
-ghost use Rattle.history.specs.Meaning.{request_of, reply_of, answer_count, call_count, tally, Unfilled, AllUnfilled};
-ghost use Rattle.history.specs.Promises.{Always, Promises};
+ghost use Rattle.history.specs.Meaning.{request_of, reply_of, form_of, form_asked, answer_count, call_count, tally, Unfilled, AllUnfilled};
+ghost use Rattle.history.specs.Promises.{Always, VerdictTrue, VerdictsTrue, Promises};
 ghost use Rattle.history.specs.declared.calls.Call.TheVariants.{Survey, Read};
 
 use crate::calls::{Answer, Call};
@@ -20,6 +21,7 @@ use survey::listing::{MOST_PLACES, survey};
 // A survey with a list of its own: it fills at most 64 places, so no more are lent.
 fn make_survey<L: Line>(rig: &mut Rig<L>, places: usize) -> Answer
     ensures told { (rig_of L.chips rig.new, reply_of result) ≡ serve (request_of (Survey places)) (rig_of L.chips rig.old) }
+    ensures form { form_of result ≡ form_asked (Survey places) }
     ensures counted { (counting L.chips rig.new).steps ≡ answer_count result (counting L.chips rig.old).steps }
     ensures rest { Unfilled result }
 {
@@ -35,6 +37,7 @@ fn make_survey<L: Line>(rig: &mut Rig<L>, places: usize) -> Answer
 // A reading into a row of its own.
 fn make_reading<L: Line>(rig: &mut Rig<L>, number: Number, row: u16) -> Answer
     ensures told { (rig_of L.chips rig.new, reply_of result) ≡ serve (request_of (Read number row)) (rig_of L.chips rig.old) }
+    ensures form { form_of result ≡ form_asked (Read number row) }
     ensures counted { (counting L.chips rig.new).steps ≡ answer_count result (counting L.chips rig.old).steps }
 {
     let mut found = [0; ROW];
@@ -45,8 +48,10 @@ fn make_reading<L: Line>(rig: &mut Rig<L>, number: Number, row: u16) -> Answer
 // One call, and its answer. A call is data, from letters or lists: one arm for each.
 pub fn make_call<L: Line>(rig: &mut Rig<L>, call: Call) -> Answer
     ensures told { (rig_of L.chips rig.new, reply_of result) ≡ serve (request_of call) (rig_of L.chips rig.old) }
+    ensures form { form_of result ≡ form_asked call }
     ensures counted { (counting L.chips rig.new).steps ≡ call_count call result (counting L.chips rig.old).steps }
     ensures rest { Unfilled result }
+    ensures verdict { MetAll (rig_of L.chips rig.old).line → VerdictTrue (request_of call) (rig_of L.chips rig.old) }
 {
     match call {
         Call::Reset => Answer::Presence(rig.reset()),
@@ -78,6 +83,7 @@ pub fn make_call<L: Line>(rig: &mut Rig<L>, call: Call) -> Answer
 pub fn play<L: Line>(rig: &mut Rig<L>, calls: &[Call], answers: &mut [Answer]) -> usize
     ensures count { result ≡ min (length calls.now) (length answers.old) }
     ensures told { (rig_of L.chips rig.new, map reply_of (take result answers.new)) ≡ serve_all (map request_of (take result calls.now)) (rig_of L.chips rig.old) }
+    ensures forms { map form_of (take result answers.new) ≡ map form_asked (take result calls.now) }
     ensures counted { (counting L.chips rig.new).steps ≡ tally (take result calls.now) (take result answers.new) (counting L.chips rig.old).steps }
     ensures rest { AllUnfilled (take result answers.new) }
     ensures later { drop result answers.new ≡ drop result answers.old }
@@ -89,6 +95,9 @@ pub fn play<L: Line>(rig: &mut Rig<L>, calls: &[Call], answers: &mut [Answer]) -
     ensures forgets { PowerUpForgets }
     ensures met { MetStays }
     ensures protection { MetAll (rig_of L.chips rig.old).line → Always (rig_of L.chips rig.old ∷ moments (map request_of (take result calls.now)) (rig_of L.chips rig.old)) }
+    ensures verdicts { MetAll (rig_of L.chips rig.old).line → VerdictsTrue (map request_of (take result calls.now)) (rig_of L.chips rig.old) }
+    ensures ends { EndsByBytes (rig_of L.chips rig.old) (map request_of (take result calls.now)) (rig_of L.chips rig.new, map reply_of (take result answers.new)) }
+    ensures known { KnownByBytes (rig_of L.chips rig.new) }
     ensures promises { Promises }
     ensures edges { EdgeRuns }
 {

@@ -1,6 +1,7 @@
--- The script's letters: what each asks of a rig, and what is printed for the reply.
-use Rattle.std.specs.Prelude.{ℕ, true, false, cond, List, Some, None, Option, ◌==◌}
-use Rattle.rig.specs.Rigs.{RigState}
+-- The script's letters: what each asks of a rig, what is printed for the reply, and what the rig has counted then.
+use Rattle.std.specs.Prelude.{ℕ, true, false, cond, List, [], ◌∷◌, Some, None, Option, ◌==◌}
+use Rattle.line.specs.Lines.{busy}
+use Rattle.rig.specs.Rigs.{RigState, counted}
 use Rattle.history.specs.Calls.{Request, reset, slot, dwell, cut, power_up, Reply, presence_is, bit_is, done, refused_with, listed, row_is, judged_as, serve, run_all}
 
 -- R reset, 0 and 1 slot, D dwell, C cut with mask 0, P power-up
@@ -33,3 +34,15 @@ script letter r = obeyed (requested letter) r
 
 abbrev pub script_all : List ℕ → RigState → RigState × List ℕ
 script_all letters r = run_all script letters r
+
+-- what a rig has counted then: a step more for a dwell, and for a reset or a slot unless the line was busy; no letter asks for a job
+abbrev pub count_after : Option Request → RigState → ℕ → ℕ
+count_after (Some reset) r n = cond (busy r.line) n (counted n)
+count_after (Some (slot b)) r n = cond (busy r.line) n (counted n)
+count_after (Some dwell) r n = counted n
+count_after asked r n = n
+
+-- and after a list of letters
+abbrev pub count_all : List ℕ → RigState → ℕ → ℕ
+count_all [] r n = n
+count_all (letter ∷ letters) r n = count_all letters (script letter r).0 (count_after (requested letter) r n)

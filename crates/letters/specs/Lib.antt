@@ -1,2 +1,3 @@
 pub mod Letters
 pub mod Meaning
+pub mod Stream

@@ -2,3 +2,4 @@
 #![tactic(auto)]
 
 pub mod script;
+pub mod stream;

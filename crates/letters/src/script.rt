@@ -1,7 +1,7 @@
 ghost use Rattle.std.specs.Prelude.{◌≡◌, min, length, take, drop};
-ghost use Rattle.rig.specs.Meaning.{rig_of};
+ghost use Rattle.rig.specs.Meaning.{rig_of, counting};
 ghost use Rattle.history.specs.Meaning.{reply_of};
-ghost use Rattle.letters.specs.Letters.{requested, printed, script, script_all};
+ghost use Rattle.letters.specs.Letters.{requested, printed, script, script_all, count_after, count_all};
 ghost use Rattle.letters.specs.Meaning.{event_of};
 
 use history::calls::{Answer, Call};
@@ -41,7 +41,8 @@ pub fn print_of(answer: Answer) -> u8
 
 // Plays one letter, and gives what is printed for it.
 pub fn play_letter<L: Line>(rig: &mut Rig<L>, letter: char) -> u8
-    ensures { (rig_of L.chips rig.new, result) ≡ script letter (rig_of L.chips rig.old) }
+    ensures told { (rig_of L.chips rig.new, result) ≡ script letter (rig_of L.chips rig.old) }
+    ensures counted { (counting L.chips rig.new).steps ≡ count_after (requested letter) (rig_of L.chips rig.old) (counting L.chips rig.old).steps }
 {
     match event(letter) {
         Some(call) => print_of(make_call(rig, call)),
@@ -54,6 +55,7 @@ pub fn play_letter<L: Line>(rig: &mut Rig<L>, letter: char) -> u8
 pub fn play_letters<L: Line>(rig: &mut Rig<L>, input: &[u8], output: &mut [u8]) -> usize
     ensures count { result ≡ min (length input.now) (length output.old) }
     ensures told { (rig_of L.chips rig.new, take result output.new) ≡ script_all (take result input.now) (rig_of L.chips rig.old) }
+    ensures counted { (counting L.chips rig.new).steps ≡ count_all (take result input.now) (rig_of L.chips rig.old) (counting L.chips rig.old).steps }
     ensures later { drop result output.new ≡ drop result output.old }
 {
     let count = input.len().min(output.len());

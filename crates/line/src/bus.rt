@@ -1,16 +1,27 @@
 ghost use Rattle.std.specs.Prelude.{◌≡◌, List, map};
-ghost use Rattle.chip.specs.Steps.{ChipState};
-ghost use Rattle.chip.specs.Effects.{effect};
+ghost use Rattle.chip.specs.Steps.{ChipState, take_bit, reset_chip, dwell_chip, cut_chip, power_chip};
 ghost use Rattle.line.specs.Lines.{presence, pull, busy};
 
-use chip::step::Step;
-
-// A line. Its meaning is the list of its chips; each step reaches every one of them, and they keep their sequence.
+// A line. Its meaning is the list of its chips: what it meets reaches every one of them, and they keep their sequence.
 pub trait Line {
     ghost chips: { Self → List ChipState };
 
-    fn step(&mut self, step: Step)
-        ensures { chips self.new ≡ map (effect step) (chips self.old) };
+    fn reset(&mut self)
+        ensures { chips self.new ≡ map reset_chip (chips self.old) };
+
+    // A bit is taken.
+    fn take(&mut self, bit: bool)
+        ensures { chips self.new ≡ map (take_bit bit) (chips self.old) };
+
+    fn dwell(&mut self)
+        ensures { chips self.new ≡ map dwell_chip (chips self.old) };
+
+    // Power fails, with a mask for a row that is being programmed.
+    fn cut(&mut self, mask: u64)
+        ensures { chips self.new ≡ map (cut_chip mask) (chips self.old) };
+
+    fn power_up(&mut self)
+        ensures { chips self.new ≡ map power_chip (chips self.old) };
 
     // A chip has power.
     fn presence(&self) -> bool

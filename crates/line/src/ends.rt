@@ -4,7 +4,6 @@ ghost use Rattle.chip.specs.Meaning.{model};
 
 use crate::bus::Line;
 use chip::device::Chip;
-use chip::step::Step;
 use memory::protocol::Protocol;
 use number::registration::Number;
 
@@ -28,8 +27,24 @@ impl<P: Protocol> OneTag<P> {
 impl<P: Protocol> Line for OneTag<P> {
     ghost chips = { λ t. model P.Protocol.memory t.chip ∷ [] };
 
-    fn step(&mut self, step: Step) {
-        self.chip.step(step);
+    fn reset(&mut self) {
+        self.chip.reset();
+    }
+
+    fn take(&mut self, bit: bool) {
+        self.chip.take(bit);
+    }
+
+    fn dwell(&mut self) {
+        self.chip.dwell();
+    }
+
+    fn cut(&mut self, mask: u64) {
+        self.chip.cut(mask);
+    }
+
+    fn power_up(&mut self) {
+        self.chip.power_up();
     }
 
     fn presence(&self) -> bool {
@@ -52,7 +67,15 @@ pub struct OpenClip;
 impl Line for OpenClip {
     ghost chips = { λ _. [] };
 
-    fn step(&mut self, _step: Step) {}
+    fn reset(&mut self) {}
+
+    fn take(&mut self, _bit: bool) {}
+
+    fn dwell(&mut self) {}
+
+    fn cut(&mut self, _mask: u64) {}
+
+    fn power_up(&mut self) {}
 
     fn presence(&self) -> bool {
         false
@@ -85,9 +108,29 @@ impl<A: Line, B: Line> Joint<A, B> {
 impl<A: Line, B: Line> Line for Joint<A, B> {
     ghost chips = { λ j. A.Line.chips j.left ++ B.Line.chips j.right };
 
-    fn step(&mut self, step: Step) {
-        self.left.step(step);
-        self.right.step(step);
+    fn reset(&mut self) {
+        self.left.reset();
+        self.right.reset();
+    }
+
+    fn take(&mut self, bit: bool) {
+        self.left.take(bit);
+        self.right.take(bit);
+    }
+
+    fn dwell(&mut self) {
+        self.left.dwell();
+        self.right.dwell();
+    }
+
+    fn cut(&mut self, mask: u64) {
+        self.left.cut(mask);
+        self.right.cut(mask);
+    }
+
+    fn power_up(&mut self) {
+        self.left.power_up();
+        self.right.power_up();
     }
 
     fn presence(&self) -> bool {

@@ -1,6 +1,6 @@
 -- The commands of the code, and their bytes.
-use Rattle.std.specs.Prelude.{ℕ, Ok, Err, Result}
-use Rattle.memory.specs.Scratchpads.{Command, write_scratchpad, read_scratchpad, copy_scratchpad, read_memory, unknown}
+use Rattle.std.specs.Prelude.{◌≡◌, ℕ, Ok, Err, Result}
+use Rattle.memory.specs.Scratchpads.{Command, write_scratchpad, read_scratchpad, copy_scratchpad, read_memory, unknown, command_of}
 use Rattle.memory.specs.declared.command.UnknownCommand.{UnknownCommand}
 use Rattle.memory.specs.declared.command.MemoryCommand.{MemoryCommand}
 use Rattle.memory.specs.declared.command.MemoryCommand.TheVariants.{WriteScratchpad, ReadScratchpad, CopyScratchpad, ReadMemory}
@@ -17,7 +17,7 @@ meant ReadScratchpad = read_scratchpad
 meant CopyScratchpad = copy_scratchpad
 meant ReadMemory = read_memory
 
--- a byte's command, if it is one
-abbrev pub command_in : Result MemoryCommand UnknownCommand → Command
-command_in (Ok c) = meant c
-command_in (Err e) = unknown
+-- what a byte is taken for: its command; an error carries a byte that is none
+abbrev pub TakenFor : ℕ → Result MemoryCommand UnknownCommand → Type 0
+TakenFor byte (Ok command) = meant command ≡ command_of byte
+TakenFor byte (Err e) = (command_of byte ≡ unknown) × (e.0 ≡ byte)

@@ -1,6 +1,6 @@
 ghost use Rattle.std.specs.Prelude.{◌≡◌};
 ghost use Rattle.memory.specs.Scratchpads.{command_of};
-ghost use Rattle.memory.specs.Commands.{byte_of, meant, command_in};
+ghost use Rattle.memory.specs.Commands.{byte_of, meant, TakenFor};
 
 // The commands of the memory phase, each with its byte.
 // Not one type with the commands on a number: the same byte is another command there.
@@ -28,7 +28,7 @@ impl MemoryCommand {
 impl TryFrom<u8> for MemoryCommand {
     type Error = UnknownCommand;
 
-    ghost try_from_gives = { λ byte command. command_in command ≡ command_of byte };
+    ghost try_from_gives = { TakenFor };
 
     fn try_from(byte: u8) -> Result<MemoryCommand, UnknownCommand> {
         match byte {

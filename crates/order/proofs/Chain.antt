@@ -17,8 +17,8 @@ use Rattle.order.specs.declared.fault.OrderFault.{OrderFault}
 use Rattle.order.specs.declared.fault.OrderFault.TheVariants.{BadRow, Exchange as InExchange, Differs, NotHeld}
 use Rattle.writing.specs.Differences.{first_difference}
 use Rattle.writing.specs.Writings.{loads, checks, copies}
-use Rattle.order.specs.Orders.{Ending, failed, judged, finds_and_closes, copies_if, ordering, Verdict, refuses, with_verdict, order_call}
-use Rattle.order.proofs.Parts.{ends, closing, copying, checking}
+use Rattle.order.specs.Orders.{Ending, failed, judged, finds_and_closes, copies_if, ordering, with_verdict, order_call}
+use Rattle.order.proofs.Parts.{ends, closing, copying, checking, call_at}
 use Rattle.order.specs.Meaning.{order_end, order_verdict, order_count, judgement, RowTaken, Counts, Concluded, Ordered}
 use Rattle.order.proofs.Quiet.{unrefused}
 
@@ -83,11 +83,8 @@ module _ (x row : ℕ) (new : List ℕ) where
         going h o =
             record { so = o.so ∙ ap (λ o. run d2.steps (copies_if x row new o) d2.rig) h ∙ sym (goes (checking x row new) t1 ∙ goes (copying x row new) t2); taken = o.taken; counts = o.counts }
 
-  abbrev called_at : Bool → RigState → RigState × Verdict
-  called_at t r = elim t as (λ _. RigState × Verdict) [ false ↦ (r, refuses 4 0 0) | true ↦ with_verdict (run 0 (ordering x row new) r) ]
-
   pub row_refused : (r : RigState) → (row % 8 ≡ 0 → ⊥) → (r, order_verdict (Err BadRow)) ≡ order_call x row new r
-  row_refused r n = sym (ap (λ t. called_at t r) (ne_eqb (row % 8) 0 n))
+  row_refused r n = sym (ap (λ t. call_at x row new r t) (ne_eqb (row % 8) 0 n))
 
   -- what a run's end tells the caller
   told_end : (d : Counting) (r : Result (Bool × ℕ) OrderFault) → RowTaken r → (d.rig, order_verdict r) ≡ with_verdict (order_end d r)
@@ -102,11 +99,11 @@ module _ (x row : ℕ) (new : List ℕ) where
   order_called {d} {d'} {r} e z o =
       told_end d' r o.taken
       ∙ ap with_verdict (o.so ∙ ap (λ n. run n (ordering x row new) d.rig) z)
-      ∙ sym (ap (λ t. called_at t d.rig) (eq-eqb (row % 8) 0 e))
+      ∙ sym (ap (λ t. call_at x row new d.rig t) (eq-eqb (row % 8) 0 e))
 
   -- a line that is busy refuses it at once
   pub order_busy : (r : RigState) → row % 8 ≡ 0 → busy r.line ≡ true → (r, order_verdict (Err (InExchange (Rig LineBusy)))) ≡ order_call x row new r
-  order_busy r e b = sym (ap (λ t. called_at t r) (eq-eqb (row % 8) 0 e) ∙ ap with_verdict (first_refused 0 (ordering x row new) r tt b))
+  order_busy r e b = sym (ap (λ t. call_at x row new r t) (eq-eqb (row % 8) 0 e) ∙ ap with_verdict (first_refused 0 (ordering x row new) r tt b))
 
   -- what the rig has counted then; on a line that was not busy no exchange is refused by the rig
   pub order_counted : {d d' : Counting} (r : Result (Bool × ℕ) OrderFault) (n : ℕ) → busy d.rig.line ≡ false → Ordered x row new d d' r → d'.steps ≡ order_count n r

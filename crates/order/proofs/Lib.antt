@@ -6,3 +6,4 @@ pub mod Absent
 pub mod Truth
 pub mod Quiet
 pub mod Steps
+pub mod Row

@@ -1,13 +1,14 @@
 -- An order from each of its exchanges on.
-use Rattle.std.proofs.Common.{ℕ, ◌/◌, ◌%◌, Bool, List, [], ◌∷◌, take, drop, Some, None, Option}
+use Rattle.std.proofs.Common.{ℕ, ◌/◌, ◌%◌, Bool, true, false, List, [], ◌∷◌, take, drop, Some, None, Option}
 use Rattle.sums.specs.Sums.{crc16, inverted}
-use Rattle.wire.specs.Jobs.{Job, ret}
+use Rattle.rig.specs.Rigs.{RigState}
+use Rattle.wire.specs.Jobs.{Job, ret, run}
 use Rattle.wire.specs.Exchanges.{Exchange, answer, refuse, pulses}
 use Rattle.wire.specs.declared.fault.Why.TheVariants.{Garbled}
 use Rattle.reading.specs.Readings.{closes}
 use Rattle.writing.specs.Differences.{first_difference}
 use Rattle.writing.specs.Writings.{checks, whole_status}
-use Rattle.order.specs.Orders.{Ending, failed, judged, copies_if}
+use Rattle.order.specs.Orders.{Ending, failed, judged, copies_if, ordering, Verdict, refuses, with_verdict}
 
 -- what is said of the sum after 0Fh, and of address and status, sum and scratchpad after AAh
 abbrev pub judged1 : Option ℕ → Exchange (Unit {0})
@@ -47,3 +48,7 @@ module _ (x row : ℕ) (new : List ℕ) where
 
   abbrev pub next : List ℕ → Job Ending
   next l = pulses (judged1 (first_difference l (inverted (sent_sum row new)))) checking failed
+
+-- a call, by whether its row is one
+abbrev pub call_at : ℕ → ℕ → List ℕ → RigState → Bool → RigState × Verdict
+call_at x row new r t = elim t [ false ↦ (r, refuses 4 0 0) | true ↦ with_verdict (run 0 (ordering x row new) r) ]

@@ -1,12 +1,13 @@
 -- An order whose tag has power, on a line with no fuse: it answers held exactly when the row is then as ordered.
-use Rattle.std.proofs.Common.{◌≡◌, ℕ, zero, suc, ◌+◌, ◌/◌, ◌%◌, ◌^◌, ◌<◌, Bool, true, false, not, ◌&&◌, eqb, List, [], ◌∷◌, ◌++◌, map, length, get_or, take, drop, Some, None, Option, sym, refl, ap, ◌∙◌, subst, ap₂, append-nil, arith, length-append, get_or-drop, eq-eqb, ne_eqb}
+use Rattle.std.proofs.Common.{◌≡◌, ℕ, zero, suc, ◌+◌, ◌/◌, ◌%◌, ◌^◌, ◌<◌, ◌≤◌, Bool, true, false, not, ◌&&◌, eqb, List, [], ◌∷◌, ◌++◌, map, length, get_or, take, drop, Some, None, Option, sym, refl, ap, ◌∙◌, subst, ap₂, append-nil, arith, length-append, get_or-drop, eq-eqb, ne_eqb}
 use lib.Seq.{take-append_seam, drop-append_seam}
-use Rattle.bits.specs.Bits.{bits_all, value}
+use Rattle.bits.specs.Bits.{bits_all, value, byte_of}
 use Rattle.sums.specs.Sums.{crc16, inverted}
-use Rattle.kind.specs.Kinds.{Rules, Lawful, at, Bytes, program, whole_row}
-use Rattle.kind.proofs.Programming.{program_bytes}
+use Rattle.kind.specs.Kinds.{Rules, Lawful, at, Bytes, blend, program, whole_row}
+use Rattle.kind.proofs.Blending.{blend-same}
+use Rattle.kind.proofs.Programming.{program_bytes, program_each}
 use Rattle.memory.specs.Scratchpads.{Regs, set_aa, status, row_of, Work, Doing, on, idle, programming, sending, alternating, await, command, copy_low, copy_high, copy_status, Awaited, got_byte, copies as accepts, is_programming}
-use Rattle.memory.specs.Memories.{padded}
+use Rattle.memory.specs.Memories.{padded, kind_in}
 use Rattle.chip.specs.Chips.{Phase, selected}
 use Rattle.chip.specs.Chips.{on as under}
 use Rattle.chip.specs.Steps.{ChipState, bytes_of, reset_chip, opened_by}
@@ -20,10 +21,10 @@ use Rattle.wire.proofs.Leading.{Leads, leads_then, leads_none, WideAll, after_op
 use Rattle.wire.proofs.Alone.{QuietAll, talking, busy_put, one_byte, bytes_read, dwell_one, read-idle, read-alternating}
 use Rattle.wire.proofs.One.{opened_none, opened_wide, opened_again, others_quiet, presence_mid, open_one}
 use Rattle.reading.proofs.Found.{found_row, closed_by}
-use Rattle.writing.specs.Differences.{first_difference}
+use Rattle.writing.specs.Differences.{differ_from, first_difference}
 use Rattle.writing.specs.Writings.{whole_status, programmed_byte}
 use Rattle.order.specs.Orders.{Ending, held, refusal, refusal_at, failed, judged, finds_and_closes, copies_if, ordering}
-use Rattle.order.specs.Laws.{bytes_with}
+use Rattle.order.specs.Laws.{bytes_with, lets_copy}
 use Rattle.order.proofs.Parts.{judged1, judged2, target, summed, sent_sum, ends, closing, copying, told, checking, next}
 use Rattle.writing.proofs.Comparing.{first_self, first_equal, first_differs}
 use Rattle.order.proofs.Loading.{sum_more, loads_at, loads-length, loads_bytes, loads-held, filled, ready, begun, Took, took, reports, status_whole, with, sent}
@@ -33,16 +34,44 @@ IsHeld (held programmed) = Unit {0}
 IsHeld (refusal k e) = ⊥
 IsHeld (refusal_at k e i) = ⊥
 
--- how an order ends, and what the tag holds then
-pub record Ends (p : Job Ending) (l : List ChipState) (x row : ℕ) (new : List ℕ) : Type 0 where
+-- programmed where the tag lets the row be copied to; no plain refusal; and an index of the row: where the found row is refused, the first at which it differs
+abbrev pub Placed : List ℕ → Bool → List ℕ → Ending → Type 0
+Placed new lets found (held programmed) = programmed ≡ lets
+Placed new lets found (refusal k e) = ⊥
+Placed new lets found (refusal_at k e i) = (i < 8) × (k ≡ 8 → first_difference new found ≡ Some i)
+
+-- how an order ends, and what the tag holds then, by the bytes that it had before and whether it lets the row be copied to
+pub record Ends (p : Job Ending) (l : List ChipState) (x row : ℕ) (new was : List ℕ) (lets : Bool) : Type 0 where
   pub answer : Ending
   pub line : List ChipState
   pub so : Leads p l (ret answer) line
   pub right : IsHeld answer → new ≡ row_in (bytes_with x line) row
   pub left : new ≡ row_in (bytes_with x line) row → IsHeld answer
+  pub same : new ≡ row_in was row → new ≡ row_in (bytes_with x line) row
+  pub placed : Placed new lets (row_in (bytes_with x line) row) answer
 
-pub then_ends : {p q : Job Ending} {l l' : List ChipState} {x row : ℕ} {new : List ℕ} → Leads p l q l' → Ends q l' x row new → Ends p l x row new
-then_ends f g = record { answer = g.answer; line = g.line; so = leads_then f g.so; right = g.right; left = g.left }
+pub then_ends : {p q : Job Ending} {l l' : List ChipState} {x row : ℕ} {new was : List ℕ} {lets : Bool} → Leads p l q l' → Ends q l' x row new was lets → Ends p l x row new was lets
+then_ends f g = record { answer = g.answer; line = g.line; so = leads_then f g.so; right = g.right; left = g.left; same = g.same; placed = g.placed }
+
+-- an index at which a list differs from one that is no longer is one of its own
+differ_within : (k : ℕ) (xs ys : List ℕ) (i : ℕ) → length ys ≤ length xs → differ_from k xs ys ≡ Some i → i < k + length xs
+differ_within k [] [] i h e = let z : ◌≡◌ {A = ℕ} 0 1 = cc in absurd (omega arith)
+differ_within k [] (y ∷ ys) i h e = absurd (omega arith)
+differ_within k (x ∷ xs) [] i h e = let q : k ≡ i = cc in omega arith
+differ_within k (x ∷ xs) (y ∷ ys) i h e = go (eqb x y) e (differ_within (k + 1) xs ys i (omega arith))
+  where
+    go : (t : Bool) → (elim t as (λ _. Option ℕ) [ true ↦ differ_from (k + 1) xs ys | false ↦ Some k ]) ≡ Some i → (differ_from (k + 1) xs ys ≡ Some i → i < k + 1 + length xs) → i < k + length (x ∷ xs)
+    go true q ih = let b = ih q in omega arith
+    go false q ih = let b : k ≡ i = cc in omega arith
+
+first_within : (xs ys : List ℕ) (i : ℕ) → length ys ≤ length xs → first_difference xs ys ≡ Some i → i < length xs
+unfolding first_difference
+first_within xs ys i h e = let b = differ_within 0 xs ys i h e in omega arith
+
+first_length : (n : ℕ) (m : List ℕ) → length (first_bytes n m) ≡ n
+first_length zero m = refl
+first_length (suc n) [] = ap suc (first_length n [])
+first_length (suc n) (b ∷ bs) = ap suc (first_length n bs)
 
 inverted_bytes : (sum : ℕ) → Bytes (inverted sum)
 inverted_bytes sum zero = omega arith
@@ -64,11 +93,27 @@ first_at (suc n) (y ∷ ys) (suc i) h = first_at n ys i (omega arith)
 row_at : (m : List ℕ) (row i : ℕ) → i < 8 → at (row_in m row) i ≡ at m (row + i)
 row_at m row i h = first_at 8 (drop row m) i h ∙ get_or-drop row m i 255
 
+-- bytes that are the same at every address are the same row
+first_same : (n : ℕ) (xs ys : List ℕ) → ((i : ℕ) → at xs i ≡ at ys i) → first_bytes n xs ≡ first_bytes n ys
+first_same zero xs ys h = refl
+first_same (suc n) [] [] h = refl
+first_same (suc n) [] (y ∷ ys) h = ap₂ (λ a l. a ∷ l) (h 0) (first_same n [] ys (λ i. h (suc i)))
+first_same (suc n) (x ∷ xs) [] h = ap₂ (λ a l. a ∷ l) (h 0) (first_same n xs [] (λ i. h (suc i)))
+first_same (suc n) (x ∷ xs) (y ∷ ys) h = ap₂ (λ a l. a ∷ l) (h 0) (first_same n xs ys (λ i. h (suc i)))
+
+row_same : (row : ℕ) (a m : List ℕ) → ((i : ℕ) → at a i ≡ at m i) → row_in a row ≡ row_in m row
+row_same row a m h = first_same 8 (drop row a) (drop row m) (λ i. get_or-drop row a i 255 ∙ h (row + i) ∙ sym (get_or-drop row m i 255))
+
 -- the bytes of the one tag
-bytes_mid : (x : ℕ) (us vs : List ChipState) (c : ChipState) → NoneHas x us → c.number ≡ x → bytes_with x (us ++ (c ∷ vs)) ≡ bytes_of c
+pub bytes_mid : (x : ℕ) (us vs : List ChipState) (c : ChipState) → NoneHas x us → c.number ≡ x → bytes_with x (us ++ (c ∷ vs)) ≡ bytes_of c
 bytes_mid x [] vs c n e = ap (λ t. elim t as (λ _. List ℕ) [ true ↦ bytes_of c | false ↦ bytes_with x vs ]) (eq-eqb c.number x e)
 bytes_mid x (u ∷ us) vs c n e =
     ap (λ t. elim t as (λ _. List ℕ) [ true ↦ bytes_of u | false ↦ bytes_with x (us ++ (c ∷ vs)) ]) (ne_eqb u.number x n.0) ∙ bytes_mid x us vs c n.1 e
+
+pub lets_mid : (x row : ℕ) (us vs : List ChipState) (c : ChipState) → NoneHas x us → c.number ≡ x → lets_copy x row (us ++ (c ∷ vs)) ≡ (kind_in c.memory).copy (bytes_of c) row
+lets_mid x row [] vs c n e = ap (λ t. elim t as (λ _. Bool) [ true ↦ (kind_in c.memory).copy (bytes_of c) row | false ↦ lets_copy x row vs ]) (eq-eqb c.number x e)
+lets_mid x row (u ∷ us) vs c n e =
+    ap (λ t. elim t as (λ _. Bool) [ true ↦ (kind_in u.memory).copy (bytes_of u) row | false ↦ lets_copy x row (us ++ (c ∷ vs)) ]) (ne_eqb u.number x n.0) ∙ lets_mid x row us vs c n.1 e
 
 bytes_reset : (x : ℕ) (l : List ChipState) → bytes_with x (map reset_chip l) ≡ bytes_with x l
 bytes_reset x [] = refl
@@ -109,8 +154,9 @@ module _ (x row : ℕ) (new : List ℕ) (hx : x < 2 ^ 64) (al : row % 8 ≡ 0) (
   byte m b rest k r w h = one_byte U V qu qv K x m true b (bits_all rest) k r w h
 
   -- the last two exchanges, whatever came before
-  concluding : (programmed : Bool) (m : List ℕ) (w : Work) → is_programming w.doing ≡ false → Bytes m → Ends (finds_and_closes x row new programmed) (at1 m w) x row new
-  concluding programmed m w e h = go (first_difference new (row_in m row)) refl
+  concluding : (was : List ℕ) (programmed lets : Bool) (m : List ℕ) (w : Work) → (new ≡ row_in was row → new ≡ row_in m row) → programmed ≡ lets → is_programming w.doing ≡ false → Bytes m
+      → Ends (finds_and_closes x row new programmed) (at1 m w) x row new was lets
+  concluding was programmed lets m w stays so e h = go (first_difference new (row_in m row)) refl
     where
       last : Work
       last = on w.regs (sending (bits_all (drop 8 (drop row m))))
@@ -129,20 +175,30 @@ module _ (x row : ℕ) (new : List ℕ) (hx : x < 2 ^ 64) (al : row % 8 ≡ 0) (
       there : bytes_with x (map reset_chip (at1 m last)) ≡ m
       there = bytes_reset x (at1 m last) ∙ bytes_mid x U V (talking U V qu qv K x m true last) (opened_none x us nu) refl
 
-      go : (o : Option ℕ) → first_difference new (row_in m row) ≡ o → Ends (finds_and_closes x row new programmed) (at1 m w) x row new
+      here : row_in m row ≡ row_in (bytes_with x (map reset_chip (at1 m last))) row
+      here = ap (λ n. row_in n row) (sym there)
+
+      go : (o : Option ℕ) → first_difference new (row_in m row) ≡ o → Ends (finds_and_closes x row new programmed) (at1 m w) x row new was lets
       go None q = record {
         answer = held programmed;
         line = map reset_chip (at1 m last);
         so = subst (λ o. Leads (finds_and_closes x row new programmed) (at1 m w) (ret (judged programmed o)) (map reset_chip (at1 m last))) q ended;
-        right = λ _. first_equal new (row_in m row) q ∙ ap (λ n. row_in n row) (sym there);
+        right = λ _. first_equal new (row_in m row) q ∙ here;
         left = λ _. tt;
+        same = λ u. stays u ∙ here;
+        placed = so;
       }
       go (Some i) q = record {
         answer = refusal_at 8 5 i;
         line = map reset_chip (at1 m last);
         so = subst (λ o. Leads (finds_and_closes x row new programmed) (at1 m w) (ret (judged programmed o)) (map reset_chip (at1 m last))) q ended;
         right = λ z. absurd z;
-        left = λ z. absurd (first_differs new (row_in m row) i q (z ∙ ap (λ n. row_in n row) there));
+        left = λ z. absurd (first_differs new (row_in m row) i q (z ∙ sym here));
+        same = λ u. stays u ∙ here;
+        placed = (
+          (let b = first_within new (row_in m row) i (let f = first_length 8 (drop row m) in omega (arith, len, f)) q in omega (arith, b, len)),
+          λ _. ap (first_difference new) (sym here) ∙ q,
+        );
       }
 
   module _ (m : List ℕ) (whole : length m ≡ K.n) (hm : Bytes m) where
@@ -182,7 +238,7 @@ module _ (x row : ℕ) (new : List ℕ) (hx : x < 2 ^ 64) (al : row % 8 ≡ 0) (
           (subst (λ b. Leads (send_bytes (whole_status ∷ []) dwelt) (at1 m (on r (await (copy_status (row % 256) (row / 256))))) dwelt (at1 m (taken b))) accepted
           (byte m whole_status [] dwelt r (copy_status (row % 256) (row / 256)) (omega arith))))))
 
-      copied : (d : Doing) → is_programming d ≡ false → Ends (copies_if x row new None) (at1 m (on r d)) x row new
+      copied : (d : Doing) → is_programming d ≡ false → Ends (copies_if x row new None) (at1 m (on r d)) x row new m (K.copy m row)
       copied d e = go (K.copy m (row_of r)) refl
         where
           after : List ℕ → Job Ending
@@ -191,17 +247,38 @@ module _ (x row : ℕ) (new : List ℕ) (hx : x < 2 ^ 64) (al : row % 8 ≡ 0) (
           burnt : List ℕ
           burnt = program K.w (row_of r) r.pad whole_row m
 
-          go : (b : Bool) → K.copy m (row_of r) ≡ b → Ends (copies_if x row new None) (at1 m (on r d)) x row new
+          row_is : row_of r ≡ row
+          row_is = let a = t.low in let b = t.high in omega (arith, a, b, al)
+
+          lets : K.copy m row ≡ K.copy m (row_of r)
+          lets = ap (K.copy m) (sym row_is)
+
+          -- where the row held what was ordered, the scratchpad has the same, so programming changes nothing
+          burnt_same : new ≡ row_in m row → new ≡ row_in burnt row
+          burnt_same u = u ∙ sym (row_same row burnt m (program_each (λ a b. b ≡ at m a) K.w (row_of r) r.pad whole_row m (λ a. refl) fits))
+            where
+              held_at : (j : ℕ) → j < 8 → at new j ≡ at m (row + j)
+              held_at j h = ap (λ l. at l j) u ∙ row_at m row j h
+
+              pad_is : r.pad ≡ new
+              pad_is = t.pad ∙ loads-held K m law whole row new (λ j h. held_at j (let e = len in omega (arith, h, e)))
+
+              fits : (i : ℕ) → i < 8 → blend (byte_of whole_row i) (at r.pad i) (at m (row_of r + i)) ≡ at m (row_of r + i)
+              fits i h =
+                  ap (λ v. blend (byte_of whole_row i) v (at m (row_of r + i))) (ap (λ l. at l i) pad_is ∙ held_at i h ∙ ap (λ k. at m (k + i)) (sym row_is))
+                  ∙ blend-same (byte_of whole_row i) (at m (row_of r + i)) (hm (row_of r + i))
+
+          go : (b : Bool) → K.copy m (row_of r) ≡ b → Ends (copies_if x row new None) (at1 m (on r d)) x row new m (K.copy m row)
           go true q =
               then_ends (subst (λ b. Leads (copies_if x row new None) (at1 m (on r d)) dwelt (at1 m (taken b))) q (copy_sent d e))
               (then_ends (dwell_one U V qu qv (λ _. read_bytes 1 after) (talking U V qu qv K x m true (on (set_aa true r) programming)))
               (then_ends (read-alternating U V qu qv K x burnt true 8 false (λ bs. after (value bs ∷ [])) (set_aa true r))
-              (concluding true burnt (on (set_aa true r) (alternating false)) refl (program_bytes K.w (row_of r) r.pad whole_row m hm))))
+              (concluding m true (K.copy m row) burnt (on (set_aa true r) (alternating false)) burnt_same (sym (lets ∙ q)) refl (program_bytes K.w (row_of r) r.pad whole_row m hm))))
           go false q =
               then_ends (subst (λ b. Leads (copies_if x row new None) (at1 m (on r d)) dwelt (at1 m (taken b))) q (copy_sent d e))
               (then_ends (dwell_one U V qu qv (λ _. read_bytes 1 after) (talking U V qu qv K x m true (on r idle)))
               (then_ends (read-idle U V qu qv K x m true 8 (λ bs. after (value bs ∷ [])) r)
-              (concluding false m (on r idle) refl hm)))
+              (concluding m false (K.copy m row) m (on r idle) (λ u. u) (sym (lets ∙ q)) refl hm)))
 
       -- 2. the scratchpad is told, and copied where it is as ordered
       abbrev echo : List ℕ
@@ -256,10 +333,10 @@ module _ (x row : ℕ) (new : List ℕ) (hx : x < 2 ^ 64) (al : row % 8 ≡ 0) (
       there : bytes_with x (at1 m (on r (sending []))) ≡ m
       there = bytes_mid x U V (talking U V qu qv K x m true (on r (sending []))) (opened_none x us nu) refl
 
-      checked : (d : Doing) → is_programming d ≡ false → Ends (checking x row new tt) (at1 m (on r d)) x row new
+      checked : (d : Doing) → is_programming d ≡ false → Ends (checking x row new tt) (at1 m (on r d)) x row new m (K.copy m row)
       checked d e = then_ends (echoed d e) (go (first_difference new loaded) refl)
         where
-          go : (o : Option ℕ) → first_difference new loaded ≡ o → Ends (copies_if x row new o) (at1 m (on r (sending []))) x row new
+          go : (o : Option ℕ) → first_difference new loaded ≡ o → Ends (copies_if x row new o) (at1 m (on r (sending []))) x row new m (K.copy m row)
           go None q = copied (sending []) refl
           go (Some i) q = record {
             answer = refusal_at 7 2 i;
@@ -267,12 +344,14 @@ module _ (x row : ℕ) (new : List ℕ) (hx : x < 2 ^ 64) (al : row % 8 ≡ 0) (
             so = leads_none;
             right = λ z. absurd z;
             left = λ z. absurd (not_held i q (z ∙ ap (λ n. row_in n row) there));
+            same = λ u. u ∙ ap (λ n. row_in n row) (sym there);
+            placed = ((let e = loaded-eight in let b = first_within new loaded i (omega (arith, e, len)) q in omega (arith, b, len)), λ z. let k : 7 ≡ 8 = z in absurd (omega arith));
           }
 
     -- 1. the row is sent
     pub order_ends : (work : Work) → length work.regs.pad ≡ 8 → (rc : Bool) (p : Phase)
         → busy (us ++ (record { number = x; live = under rc p; memory = padded (record { rules = K; bytes = m; work = work }) } ∷ vs)) ≡ false
-        → Ends (ordering x row new) (us ++ (record { number = x; live = under rc p; memory = padded (record { rules = K; bytes = m; work = work }) } ∷ vs)) x row new
+        → Ends (ordering x row new) (us ++ (record { number = x; live = under rc p; memory = padded (record { rules = K; bytes = m; work = work }) } ∷ vs)) x row new m (K.copy m row)
     order_ends work eight rc p b =
         then_ends
         (open_one x hx us vs wu wv (send_bytes (0x0F ∷ row % 256 ∷ row / 256 ∷ []) (send_bytes new (read_bytes 2 (next x row new)))) (failed NoPresence 1) rc p (record { rules = K; bytes = m; work = work }) b)

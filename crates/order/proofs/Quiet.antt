@@ -1,5 +1,5 @@
 -- An order is refused with 3 at its first pulse or never; and one refused with 7 changes no byte.
-use Rattle.std.proofs.Common.{◌≡◌, ℕ, ◌/◌, ◌%◌, Bool, true, false, eqb, List, [], ◌∷◌, map, get_or, take, drop, Some, None, Option, sym, refl, ap, subst, arith}
+use Rattle.std.proofs.Common.{◌≡◌, ℕ, ◌/◌, ◌%◌, Bool, true, false, eqb, List, [], ◌∷◌, ◌++◌, map, get_or, take, drop, Some, None, Option, sym, refl, ap, subst, arith}
 use Rattle.std.proofs.lemmas.Simd.{map-map}
 use Rattle.bits.specs.Bits.{bits_of, bits_all, value}
 use Rattle.bits.proofs.Choice.{pick}
@@ -8,7 +8,7 @@ use Rattle.memory.specs.Scratchpads.{Work, copies as accepts, working}
 use Rattle.memory.specs.Memories.{Memory, padded}
 use Rattle.chip.specs.Chips.{selected}
 use Rattle.chip.specs.Chips.{on as under}
-use Rattle.chip.specs.Steps.{ChipState, bytes_of, dwell_chip, takes}
+use Rattle.chip.specs.Steps.{ChipState, bytes_of, reset_chip, dwell_chip, takes}
 use Rattle.chip.proofs.Select.{Hears, listening, takes-idle, takes-off}
 use Rattle.line.specs.Lines.{busy}
 use Rattle.rig.specs.Rigs.{RigState, dwells}
@@ -18,14 +18,14 @@ use Rattle.wire.specs.declared.fault.Why.{Why}
 use Rattle.wire.specs.declared.fault.Why.TheVariants.{NoPresence, Garbled}
 use Rattle.wire.proofs.Leading.{send-append}
 use Rattle.wire.proofs.Power.{first_refused}
-use Rattle.wire.proofs.Calm.{Leaves, GotAll, leaves, leaves_run, DwellFree, Gets, bytes_unless, Still, still_free, dwell_free, Unrefused, Ended, unrefused_run, unrefused_opening, BegunAll, begun_hear, begun_calm, command_hears, command_calm, CalmChip, CalmAll, calm_busy, calm_send, calm_bytes, heard_send}
+use Rattle.wire.proofs.Calm.{Leaves, GotAll, leaves, leaves_run, DwellFree, Gets, bytes_unless, Still, still_free, dwell_free, Unrefused, Anyhow, Free, Freed, freed_unrefused, freed_run, Ended, unrefused_run, opening_at, freed_opening, BegunAll, begun_hear, begun_calm, command_hears, command_calm, CalmChip, CalmAll, calm_busy, calm_send, calm_bytes, heard_to}
 use Rattle.reading.specs.Readings.{finds, closes}
 use Rattle.reading.proofs.Quiet.{still_closes, un_close, un_find}
 use Rattle.writing.specs.Differences.{first_difference}
 use Rattle.writing.specs.Writings.{loads, checks, copies, whole_status, programmed_byte}
-use Rattle.order.specs.Orders.{Ending, held, refusal, refusal_at, failed, judged, finds_and_closes, copies_if, ordering, Verdict, refuses, refuses_at, verdict_of, with_verdict}
-use Rattle.order.specs.Laws.{BusyUnchanged, Uncopied}
-use Rattle.order.proofs.Parts.{judged1, judged2, target, summed, sent_sum, ends, closing, copying, told, checking, next}
+use Rattle.order.specs.Orders.{Ending, held, refusal, refusal_at, failed, judged, finds_and_closes, copies_if, ordering, Verdict, refuses, refuses_at, verdict_of}
+use Rattle.order.specs.Laws.{LeavesFree, BusyUnchanged, Uncopied}
+use Rattle.order.proofs.Parts.{judged1, judged2, target, summed, sent_sum, ends, closing, copying, told, checking, next, call_at}
 
 -- 1. the bits of a copy: every chip hears them, and after the dwell none is programming
 module _ (a b c : ℕ) where
@@ -141,53 +141,67 @@ module _ (a b c : ℕ) where
       begun_calm (λ c. dwell_chip (takes bits c)) (λ x m. subst (λ d. CalmChip (dwell_chip d)) (sym (takes-off x m bits)) tt) listening_dwelt
       (λ x m. subst (λ d. CalmChip (dwell_chip d)) (sym (takes-idle x m bits false)) tt)
 
--- 2. no pulse of an order is refused on a line that was not busy
+-- 2. no pulse of an order is refused on a line that was not busy, and no chip programs at its end
 module _ (x row : ℕ) (new : List ℕ) where
-  un_concludes : (programmed : Bool) (l : List ChipState) → CalmAll l → Unrefused (finds_and_closes x row new programmed) l
-  un_concludes programmed l h =
-      un_find x row 4 (closing new programmed) failed (λ xs. un_close 5 (ends new programmed xs) failed (λ _. tt) (λ _. tt)) (λ _. tt) l (calm_busy l h)
-
-  abbrev said : List ℕ → Job Ending
-  said got = finds_and_closes x row new (eqb (get_or got 0 0) programmed_byte)
-
-  abbrev sent : List Bool
+  abbrev pub sent : List Bool
   sent = bits (row % 256) (row / 256) whole_status
 
-  un_copies : (o : Option ℕ) (l : List ChipState) → busy l ≡ false → Unrefused (copies_if x row new o) l
-  un_copies (Some i) l e = tt
-  un_copies None l e =
-      unrefused_opening x (send_bytes (0x55 ∷ row % 256 ∷ row / 256 ∷ whole_status ∷ []) (step dwells (λ _. read_bytes 1 said))) (failed NoPresence 3) l e (λ _. tt)
-      (λ l' o. heard_send sent (step dwells (λ _. read_bytes 1 said)) l' (begun_hear sent (copy_heard (row % 256) (row / 256) whole_status) l' o)
-      (refl, calm_bytes 1 said (map dwell_chip (map (takes sent) l')) (subst CalmAll (sym (map-map dwell_chip (takes sent) l')) (dwelt_calm (row % 256) (row / 256) whole_status l' o)) (λ got. un_concludes (eqb (get_or got 0 0) programmed_byte))))
+  -- the line once the third exchange has begun, and once the copy was sent
+  abbrev pub begun : List ChipState → List ChipState
+  begun l = map (takes (bits_of 8 0x55 ++ bits_of 64 x)) (map reset_chip l)
 
-  un_told : (got : List ℕ) (l : List ChipState) → CalmAll l → Unrefused (told x row new got) l
-  un_told got l h = go (target row got) (summed row got)
-    where
-      go : (a b : Option ℕ) → Unrefused (pulses (judged2 a b (take 8 (drop 3 got))) (copying x row new) failed) l
-      go (Some i) b = tt
-      go None (Some i) = tt
-      go None None = un_copies (first_difference new (take 8 (drop 3 got))) l (calm_busy l h)
+  abbrev pub copied : List ChipState → List ChipState
+  copied l = map (takes sent) (begun l)
 
-  un_checks : (l : List ChipState) → busy l ≡ false → Unrefused (checking x row new tt) l
-  un_checks l e =
-      unrefused_opening x (send_bytes (0xAA ∷ []) (read_bytes 13 (told x row new))) (failed NoPresence 2) l e (λ _. tt)
-      (λ l' o. heard_send (bits_of 8 0xAA) (read_bytes 13 (told x row new)) l' (command_hears 0xAA l' o)
-      (calm_bytes 13 (told x row new) (map (takes (bits_of 8 0xAA)) l') (command_calm 0xAA (λ K m r. tt) l' o) un_told))
+  module _ (D : List ChipState → Type 0) (dwelling : (l : List ChipState) → busy l ≡ false → D (copied l)) where
+    un_concludes : (programmed : Bool) (l : List ChipState) → CalmAll l → Freed D (finds_and_closes x row new programmed) l
+    un_concludes programmed l h =
+        un_find D x row 4 (closing new programmed) failed (λ xs. un_close D 5 (ends new programmed xs) failed (λ _ b. b) (λ _ b. b)) (λ _ b. b) l (calm_busy l h)
 
-  un_next : (got : List ℕ) (l : List ChipState) → CalmAll l → Unrefused (next x row new got) l
-  un_next got l h = go (first_difference got (inverted (sent_sum row new)))
-    where
-      go : (o : Option ℕ) → Unrefused (pulses (judged1 o) (checking x row new) failed) l
-      go None = un_checks l (calm_busy l h)
-      go (Some i) = tt
+    abbrev said : List ℕ → Job Ending
+    said got = finds_and_closes x row new (eqb (get_or got 0 0) programmed_byte)
+
+    un_copies : (o : Option ℕ) (l : List ChipState) → busy l ≡ false → Freed D (copies_if x row new o) l
+    un_copies (Some i) l e = e
+    un_copies None l e =
+        opening_at D x (send_bytes (0x55 ∷ row % 256 ∷ row / 256 ∷ whole_status ∷ []) (step dwells (λ _. read_bytes 1 said))) (failed NoPresence 3) l e (λ _ b. b)
+        (λ o. heard_to D Free sent (step dwells (λ _. read_bytes 1 said)) (begun l) (begun_hear sent (copy_heard (row % 256) (row / 256) whole_status) (begun l) o)
+        (dwelling l e, calm_bytes D 1 said (map dwell_chip (copied l)) (subst CalmAll (sym (map-map dwell_chip (takes sent) (begun l))) (dwelt_calm (row % 256) (row / 256) whole_status (begun l) o)) (λ got. un_concludes (eqb (get_or got 0 0) programmed_byte))))
+
+    un_told : (got : List ℕ) (l : List ChipState) → CalmAll l → Freed D (told x row new got) l
+    un_told got l h = go (target row got) (summed row got)
+      where
+        go : (a b : Option ℕ) → Freed D (pulses (judged2 a b (take 8 (drop 3 got))) (copying x row new) failed) l
+        go (Some i) b = calm_busy l h
+        go None (Some i) = calm_busy l h
+        go None None = un_copies (first_difference new (take 8 (drop 3 got))) l (calm_busy l h)
+
+    un_checks : (l : List ChipState) → busy l ≡ false → Freed D (checking x row new tt) l
+    un_checks l e =
+        freed_opening D x (send_bytes (0xAA ∷ []) (read_bytes 13 (told x row new))) (failed NoPresence 2) l e (λ _ b. b)
+        (λ l' o. heard_to D Free (bits_of 8 0xAA) (read_bytes 13 (told x row new)) l' (command_hears 0xAA l' o)
+        (calm_bytes D 13 (told x row new) (map (takes (bits_of 8 0xAA)) l') (command_calm 0xAA (λ K m r. tt) l' o) un_told))
+
+    un_next : (got : List ℕ) (l : List ChipState) → CalmAll l → Freed D (next x row new got) l
+    un_next got l h = go (first_difference got (inverted (sent_sum row new)))
+      where
+        go : (o : Option ℕ) → Freed D (pulses (judged1 o) (checking x row new) failed) l
+        go None = un_checks l (calm_busy l h)
+        go (Some i) = calm_busy l h
+
+    pub freed : (l : List ChipState) → busy l ≡ false → Freed D (ordering x row new) l
+    freed l e =
+        freed_opening D x (send_bytes (0x0F ∷ row % 256 ∷ row / 256 ∷ []) (send_bytes new (read_bytes 2 (next x row new)))) (failed NoPresence 1) l e (λ _ b. b)
+        (λ l' o. subst (λ j. Freed D j l') (sym (send-append (bits_of 8 0x0F) (bits_all (row % 256 ∷ row / 256 ∷ [])) (send_bytes new (read_bytes 2 (next x row new)))))
+        (heard_to D Free (bits_of 8 0x0F) (send_bits (bits_all (row % 256 ∷ row / 256 ∷ [])) (send_bytes new (read_bytes 2 (next x row new)))) l' (command_hears 0x0F l' o)
+        (calm_send D (bits_all (row % 256 ∷ row / 256 ∷ [])) (send_bytes new (read_bytes 2 (next x row new))) (map (takes (bits_of 8 0x0F)) l') (command_calm 0x0F (λ K m r. tt) l' o)
+        (λ l'' h. calm_send D (bits_all new) (read_bytes 2 (next x row new)) l'' h (λ l''' h'. calm_bytes D 2 (next x row new) l''' h' un_next)))))
+
+  pub freed_anyhow : (l : List ChipState) → busy l ≡ false → Freed Anyhow (ordering x row new) l
+  freed_anyhow l e = freed Anyhow (λ _ _. tt) l e
 
   pub unrefused : (l : List ChipState) → busy l ≡ false → Unrefused (ordering x row new) l
-  unrefused l e =
-      unrefused_opening x (send_bytes (0x0F ∷ row % 256 ∷ row / 256 ∷ []) (send_bytes new (read_bytes 2 (next x row new)))) (failed NoPresence 1) l e (λ _. tt)
-      (λ l' o. subst (λ j. Unrefused j l') (sym (send-append (bits_of 8 0x0F) (bits_all (row % 256 ∷ row / 256 ∷ [])) (send_bytes new (read_bytes 2 (next x row new)))))
-      (heard_send (bits_of 8 0x0F) (send_bits (bits_all (row % 256 ∷ row / 256 ∷ [])) (send_bytes new (read_bytes 2 (next x row new)))) l' (command_hears 0x0F l' o)
-      (calm_send (bits_all (row % 256 ∷ row / 256 ∷ [])) (send_bytes new (read_bytes 2 (next x row new))) (map (takes (bits_of 8 0x0F)) l') (command_calm 0x0F (λ K m r. tt) l' o)
-      (λ l'' h. calm_send (bits_all new) (read_bytes 2 (next x row new)) l'' h (λ l''' h'. calm_bytes 2 (next x row new) l''' h' un_next)))))
+  unrefused l e = freed_unrefused Anyhow (ordering x row new) l (freed_anyhow l e)
 
 -- 3. so refusal 3 leaves all unchanged
 abbrev NotThree : Ending → Type 0
@@ -268,9 +282,6 @@ module _ (x row : ℕ) (new : List ℕ) where
       (loads x row new) (λ l. still_loads (first_difference l (inverted (sent_sum row new))))
 
 -- what the caller is told
-abbrev call_at : ℕ → ℕ → List ℕ → RigState → Bool → RigState × Verdict
-call_at x row new r t = elim t [ false ↦ (r, refuses 4 0 0) | true ↦ with_verdict (run 0 (ordering x row new) r) ]
-
 pub busy_unchanged : BusyUnchanged
 busy_unchanged r x row e n new q = go (eqb (row % 8) 0) q
   where
@@ -288,6 +299,10 @@ busy_unchanged r x row e n new q = go (eqb (row % 8) 0) q
     go true q =
         begun (busy r.line) refl (said (run 0 (ordering x row new) r).got (run 0 (ordering x row new) r).steps (leaves_run NotThree 0 (ordering x row new) r (never_three x row new)) q)
     go false q = let z : ◌≡◌ {A = ℕ} 3 4 = cc in absurd (omega arith)
+
+pub leaves_free : LeavesFree
+leaves_free r x row new b =
+    pick (eqb (row % 8) 0) (λ (s : RigState × Verdict). Free s.0.line) (freed_run Anyhow 0 (ordering x row new) r.line r.fuse (freed_anyhow x row new r.line b)) b
 
 pub uncopied : Uncopied
 uncopied r x row e i n new q = go (eqb (row % 8) 0) q

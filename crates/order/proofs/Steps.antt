@@ -1,5 +1,5 @@
 -- How many steps an order takes.
-use Rattle.std.proofs.Common.{◌≡◌, ℕ, ◌+◌, ◌/◌, ◌%◌, ◌≤◌, Bool, true, false, cond, eqb, List, [], ◌∷◌, length, get_or, take, drop, Some, None, Option, sym, refl, ◌∙◌, subst, arith}
+use Rattle.std.proofs.Common.{◌≡◌, ℕ, ◌+◌, ◌/◌, ◌%◌, ◌≤◌, Bool, true, false, cond, eqb, ◌⊎◌, List, [], ◌∷◌, length, get_or, take, drop, Some, None, Option, sym, refl, ◌∙◌, subst, inl, inr, arith}
 use Rattle.bits.specs.Bits.{bits_all}
 use Rattle.bits.proofs.Queues.{length_all}
 use Rattle.sums.specs.Sums.{inverted}
@@ -10,14 +10,14 @@ use Rattle.wire.specs.declared.fault.Why.TheVariants.{NoPresence}
 use Rattle.wire.proofs.Counts.{LeavesAt, GotAt, leaves_at, at-step, at-send, at_bytes, at-opening}
 use Rattle.writing.specs.Differences.{first_difference}
 use Rattle.writing.specs.Writings.{whole_status, programmed_byte}
-use Rattle.order.specs.Orders.{Ending, held, refusal, refusal_at, failed, judged, finds_and_closes, copies_if, ordering, Verdict, holds, refuses, verdict_of, with_verdict}
+use Rattle.order.specs.Orders.{Ending, held, refusal, refusal_at, failed, judged, finds_and_closes, copies_if, ordering, holds, verdict_of}
 use Rattle.order.specs.Laws.{steps_of, OrderSteps}
-use Rattle.order.proofs.Parts.{judged1, judged2, target, summed, sent_sum, ends, closing, copying, told, checking, next}
+use Rattle.order.proofs.Parts.{judged1, judged2, target, summed, sent_sum, ends, closing, copying, told, checking, next, call_at}
 
-abbrev Takes : ℕ → Ending → Type 0
+abbrev pub Takes : ℕ → Ending → Type 0
 Takes k (held programmed) = k ≡ 638
 Takes k (refusal n e) = k ≤ 638
-Takes k (refusal_at n e i) = k ≤ 638
+Takes k (refusal_at n e i) = ((n ≡ 7) × (e ≡ 2) × (k ≡ 362)) ⊎ ((n ≡ 8) × (e ≡ 5) × (k ≡ 638))
 
 module _ (x row : ℕ) (new : List ℕ) where
   at-closing : (p : Bool) (f : List ℕ) → LeavesAt Takes 637 (closing new p f)
@@ -25,7 +25,7 @@ module _ (x row : ℕ) (new : List ℕ) where
     where
       last : (o : Option ℕ) → Takes 638 (judged p o)
       last None = refl
-      last (Some i) = omega arith
+      last (Some i) = inr (refl, refl, refl)
 
       go : (b : Bool) → LeavesAt Takes 638 (pulses (cond b (answer tt) (refuse NoPresence 5)) (ends new p f) failed)
       go true = last (first_difference new f)
@@ -41,7 +41,7 @@ module _ (x row : ℕ) (new : List ℕ) where
   said got = finds_and_closes x row new (eqb (get_or got 0 0) programmed_byte)
 
   at_copies : (o : Option ℕ) → LeavesAt Takes 362 (copies_if x row new o)
-  at_copies (Some i) = omega arith
+  at_copies (Some i) = inl (refl, refl, refl)
   at_copies None =
       at-opening Takes x 362 (send_bytes (0x55 ∷ row % 256 ∷ row / 256 ∷ whole_status ∷ []) (step dwells (λ _. read_bytes 1 said))) (failed NoPresence 3) (omega arith)
       (at-send Takes (bits_all (0x55 ∷ row % 256 ∷ row / 256 ∷ whole_status ∷ [])) 435 (step dwells (λ _. read_bytes 1 said)) (omega arith)
@@ -89,14 +89,12 @@ said_steps line_busy k n p h q = let z : ◌≡◌ {A = ℕ} 0 1 = cc in absurd 
 bounded : (g : Got Ending) (k : ℕ) → GotAt Takes k g → steps_of (verdict_of g k) ≤ 638
 bounded (done (held b)) k h = omega (arith, h)
 bounded (done (refusal j e)) k h = h
-bounded (done (refusal_at j e i)) k h = h
+bounded (done (refusal_at j e i)) k (inl h) = let q = h.2 in omega (arith, q)
+bounded (done (refusal_at j e i)) k (inr h) = let q = h.2 in omega (arith, q)
 bounded line_busy k h = omega arith
 
-abbrev call_at : ℕ → ℕ → List ℕ → RigState → Bool → RigState × Verdict
-call_at x row new r t = elim t [ false ↦ (r, refuses 4 0 0) | true ↦ with_verdict (run 0 (ordering x row new) r) ]
-
 module _ (r : RigState) (x row : ℕ) (new : List ℕ) (len : length new ≡ 8) where
-  counts : GotAt Takes (run 0 (ordering x row new) r).steps (run 0 (ordering x row new) r).got
+  pub counts : GotAt Takes (run 0 (ordering x row new) r).steps (run 0 (ordering x row new) r).got
   counts = leaves_at Takes 0 (ordering x row new) r (takes x row new len)
 
   steps_held : (n : ℕ) (p : Bool) (t : Bool) → (call_at x row new r t).1 ≡ holds p n → n ≡ 638

@@ -1,27 +1,32 @@
 -- The verdict is the truth.
-use Rattle.std.proofs.Common.{◌≡◌, ℕ, ◌%◌, ◌^◌, ◌<◌, Bool, true, false, eqb, ◌↔◌, List, ◌∷◌, ◌++◌, length, sym, refl, ap, ◌∙◌, subst, eq-eqb}
+use Rattle.std.proofs.Common.{◌≡◌, ℕ, ◌%◌, ◌^◌, ◌<◌, Bool, true, false, eqb, ◌↔◌, List, ◌∷◌, ◌++◌, length, sym, refl, ap, ◌∙◌, subst, inl, inr, eq-eqb}
 use Rattle.std.proofs.lemmas.Bool.{true≢false, eqb-true}
 use Rattle.kind.specs.Kinds.{Bytes}
-use Rattle.memory.specs.Memories.{Memory, padded}
+use Rattle.memory.specs.Memories.{Memory, padded, bytes_in, kind_in}
 use Rattle.memory.proofs.Sound.{SoundMemory}
 use Rattle.chip.specs.Chips.{Live, off, powered}
 use Rattle.chip.specs.Chips.{on as under}
-use Rattle.chip.specs.Steps.{ChipState}
+use Rattle.chip.specs.Steps.{ChipState, bytes_of}
 use Rattle.chip.proofs.Sound.{SoundAll, met_sounds}
 use Rattle.line.specs.Lines.{busy}
 use Rattle.rig.specs.Rigs.{RigState}
-use Rattle.wire.specs.Jobs.{Got, done, line_busy, Ran, run}
+use Rattle.wire.specs.Jobs.{Got, done, line_busy, Ran, run, good}
 use Rattle.wire.specs.Laws.{powered_in, NoneHas, Single, row_in}
 use Rattle.wire.proofs.Leading.{free, WideAll}
+use Rattle.wire.proofs.After.{one_run}
+use Rattle.wire.proofs.Calm.{Anyhow, freed_run}
+use Rattle.wire.proofs.Counts.{GotAt}
 use Rattle.wire.proofs.Power.{GotGood, first_refused, kept_free, good_free, good_kept}
 use Rattle.wire.proofs.Selected.{sound_wide, sound_mid, powered_one}
-use Rattle.order.specs.Orders.{Ending, held, refusal, refusal_at, ordering, Verdict, refuses, verdict_of, with_verdict, order_call}
-use Rattle.order.specs.Laws.{Held, Began, Kept, bytes_with, Tells, OrderTells}
-use Rattle.order.proofs.Present.{IsHeld, Ends, order_ends}
+use Rattle.order.specs.Orders.{Ending, held, refusal, refusal_at, ordering, verdict_of, order_call}
+use Rattle.order.specs.Laws.{Held, Began, Kept, bytes_with, lets_copy, Outcome, Tells, OrderTells}
+use Rattle.order.proofs.Parts.{call_at}
+use Rattle.order.proofs.Present.{IsHeld, Placed, Ends, bytes_mid, lets_mid, order_ends}
+use Rattle.reading.specs.Laws.{finding}
+use Rattle.reading.proofs.Found.{told_row}
 use Rattle.order.proofs.Absent.{order_wary, absent}
-
-abbrev call_at : ℕ → ℕ → List ℕ → RigState → Bool → RigState × Verdict
-call_at x row new r t = elim t [ false ↦ (r, refuses 4 0 0) | true ↦ with_verdict (run 0 (ordering x row new) r) ]
+use Rattle.order.proofs.Quiet.{freed_anyhow}
+use Rattle.order.proofs.Steps.{Takes, counts}
 
 -- a busy line refuses the first pulse
 busy-refused : (x row : ℕ) (new : List ℕ) (r : RigState) → busy r.line ≡ true → run 0 (ordering x row new) r ≡ record { rig = r; steps = 0; got = line_busy }
@@ -56,13 +61,23 @@ module _ (n : ℕ) where
   said_held (done (refusal_at k e i)) h = absurd h
   said_held line_busy h = absurd h
 
+-- an ending with its steps
+outcome_of : (new : List ℕ) (lets : Bool) (found : List ℕ) (n : ℕ) (g : Got Ending) (a : Ending) → g ≡ done a → Placed new lets found a → GotAt Takes n g → Outcome new lets found (verdict_of g n)
+outcome_of new lets found n g a q p t = subst (λ h. Outcome new lets found (verdict_of h n)) (sym q) (go a p (subst (GotAt Takes n) q t))
+  where
+    go : (a : Ending) → Placed new lets found a → Takes n a → Outcome new lets found (verdict_of (done a) n)
+    go (held programmed) p t = (t, p)
+    go (refusal k e) p t = absurd p
+    go (refusal_at k e i) p (inl t) = (p.0, inl t)
+    go (refusal_at k e i) p (inr t) = (p.0, inr (t.0, t.1, t.2, p.1 t.0))
+
 module _ (x row : ℕ) (new : List ℕ) (hx : x < 2 ^ 64) (al : row % 8 ≡ 0) (hr : row < 65536) (len : length new ≡ 8) (small : Bytes new) where
   -- with power and no fuse
   present : (us vs : List ChipState) → NoneHas x us → NoneHas x vs → WideAll us → WideAll vs → (n : ℕ) (l : Live) (m : Memory) → n ≡ x → powered l ≡ true → SoundMemory m
-      → busy (us ++ (record { number = n; live = l; memory = m } ∷ vs)) ≡ false → Ends (ordering x row new) (us ++ (record { number = n; live = l; memory = m } ∷ vs)) x row new
+      → busy (us ++ (record { number = n; live = l; memory = m } ∷ vs)) ≡ false → Ends (ordering x row new) (us ++ (record { number = n; live = l; memory = m } ∷ vs)) x row new (bytes_in m) ((kind_in m).copy (bytes_in m) row)
   present us vs nu nv wu wv n off m e p s b = absurd (true≢false (sym p))
   present us vs nu nv wu wv n (under rc ph) (padded q) e p s b =
-      subst (λ k. busy (us ++ (record { number = k; live = under rc ph; memory = padded q } ∷ vs)) ≡ false → Ends (ordering x row new) (us ++ (record { number = k; live = under rc ph; memory = padded q } ∷ vs)) x row new) (sym e)
+      subst (λ k. busy (us ++ (record { number = k; live = under rc ph; memory = padded q } ∷ vs)) ≡ false → Ends (ordering x row new) (us ++ (record { number = k; live = under rc ph; memory = padded q } ∷ vs)) x row new q.bytes (q.rules.copy q.bytes row)) (sym e)
       (order_ends x row new hx al hr len small us vs nu nv wu wv q.rules s.lawful q.bytes s.whole s.small q.work s.work.regs.whole rc ph) b
 
   module _ (r : RigState) (s : SoundAll r.line) (b : busy r.line ≡ false) (o : Single x r.line) where
@@ -72,23 +87,51 @@ module _ (x row : ℕ) (new : List ℕ) (hx : x < 2 ^ 64) (al : row % 8 ≡ 0) (
     abbrev freely : Ran Ending
     freely = run 0 (ordering x row new) (free r.line)
 
-    ends : powered_in x r.line ≡ true → Ends (ordering x row new) r.line x row new
+    ends : powered_in x r.line ≡ true → Ends (ordering x row new) r.line x row new (bytes_with x r.line) (lets_copy x row r.line)
     ends u =
         let parts = sound_mid o.before o.behind o.tag (subst SoundAll o.so s) in
-        subst (λ l. Ends (ordering x row new) l x row new) (sym o.so)
+        subst (λ l. Ends (ordering x row new) l x row new (bytes_with x l) (lets_copy x row l)) (sym o.so)
+        (subst (λ m. Ends (ordering x row new) (o.before ++ (o.tag ∷ o.behind)) x row new m (lets_copy x row (o.before ++ (o.tag ∷ o.behind)))) (sym (bytes_mid x o.before o.behind o.tag o.none_before o.is))
+        (subst (Ends (ordering x row new) (o.before ++ (o.tag ∷ o.behind)) x row new (bytes_of o.tag)) (sym (lets_mid x row o.before o.behind o.tag o.none_before o.is))
         (present o.before o.behind o.none_before o.none_behind (sound_wide o.before parts.0) (sound_wide o.behind parts.2) o.tag.number o.tag.live o.tag.memory o.is
-        (powered_one x o.before o.behind o.tag o.none_before o.none_behind (ap (powered_in x) (sym o.so) ∙ u)) parts.1.memory (ap busy (sym o.so) ∙ b))
+        (powered_one x o.before o.behind o.tag o.none_before o.none_behind (ap (powered_in x) (sym o.so) ∙ u)) parts.1.memory (ap busy (sym o.so) ∙ b))))
+
+    -- where the tag kept power, the run is the one without a fuse
+    as-free : Kept x row new r → (e : Ends (ordering x row new) r.line x row new (bytes_with x r.line) (lets_copy x row r.line))
+        → (went.got ≡ done e.answer) × (row_in (bytes_with x went.rig.line) row ≡ row_in (bytes_with x e.line) row)
+    as-free k e =
+        let f = kept_free x 0 (ordering x row new) r.line r.fuse k.1 in
+        let same = (e.so.so 0).1 in
+        (f.got ∙ ap (λ w. w.got) same, ap (λ l. row_in (bytes_with x l) row) (f.line ∙ ap (λ w. w.rig.line) same))
 
     kept : Kept x row new r → GotGood IsHeld went.got ↔ (new ≡ row_in (bytes_with x went.rig.line) row)
     kept k =
-        let as-free = kept_free x 0 (ordering x row new) r.line r.fuse k.1 in
         let e = ends k.0 in
-        let same = (e.so.so 0).1 in
-        let got : went.got ≡ done e.answer = as-free.got ∙ ap (λ w. w.got) same in
-        let line : went.rig.line ≡ e.line = as-free.line ∙ ap (λ w. w.rig.line) same in (
-          λ h. e.right (subst (GotGood IsHeld) got h) ∙ ap (λ l. row_in (bytes_with x l) row) (sym line),
-          λ h. subst (GotGood IsHeld) (sym got) (e.left (h ∙ ap (λ l. row_in (bytes_with x l) row) line)),
+        let w = as-free k e in (
+          λ h. e.right (subst (GotGood IsHeld) w.0 h) ∙ sym w.1,
+          λ h. subst (GotGood IsHeld) (sym w.0) (e.left (h ∙ w.1)),
         )
+
+    -- a row that has the ordered bytes already
+    as_is : Kept x row new r → new ≡ row_in (bytes_with x r.line) row → GotGood IsHeld went.got
+    as_is k u =
+        let e = ends k.0 in
+        subst (GotGood IsHeld) (sym (as-free k e).0) (e.left (e.same u))
+
+    outcome : Kept x row new r → Outcome new (lets_copy x row r.line) (row_in (bytes_with x went.rig.line) row) (verdict_of went.got went.steps)
+    outcome k =
+        let e = ends k.0 in
+        let w = as-free k e in
+        outcome_of new (lets_copy x row r.line) (row_in (bytes_with x went.rig.line) row) went.steps went.got e.answer w.0
+        (subst (λ f. Placed new (lets_copy x row r.line) f e.answer) (sym w.1) e.placed) (counts r x row new len)
+
+    -- what F0h gives then
+    given : (finding 4 x row went.rig.line).got ≡ done (good (row_in (bytes_with x went.rig.line) row))
+    given =
+        let left = one_run x 0 (ordering x row new) r (s, o) in
+        let t = left.1 in
+        told_row 4 x row hx hr went.rig.line left.0 (freed_run Anyhow 0 (ordering x row new) r.line r.fuse (freed_anyhow x row new r.line b)) t
+        ∙ ap (λ m. done (good (row_in m row))) (sym (ap (bytes_with x) t.so ∙ bytes_mid x t.before t.behind t.tag t.none_before t.is))
 
     lacked : (Kept x row new r → ⊥) → GotGood IsHeld went.got → ⊥
     lacked never h = go (powered_in x r.line) refl
@@ -101,10 +144,13 @@ module _ (x row : ℕ) (new : List ℕ) (hx : x < 2 ^ 64) (al : row % 8 ≡ 0) (
 
     tells : Tells x row new r
     tells = record {
+      found = ap (λ (q : RigState). (finding 4 x row q.line).got) called.0 ∙ given ∙ ap (λ f. done (good f)) found;
       kept = λ k. let t = kept k in (
         λ h. t.0 (said_held went.steps went.got (subst Held called.1 h)) ∙ found,
         λ h. subst Held (sym called.1) (held_said went.steps went.got (t.1 (h ∙ sym found))),
       );
+      as_is = λ k u. subst Held (sym called.1) (held_said went.steps went.got (as_is k u));
+      outcome = λ k. subst (λ f. Outcome new (lets_copy x row r.line) f (order_call x row new r).1) found (subst (Outcome new (lets_copy x row r.line) (row_in (bytes_with x went.rig.line) row)) (sym called.1) (outcome k));
       lacked = λ never h. lacked never (said_held went.steps went.got (subst Held called.1 h));
     }
       where

@@ -1,8 +1,10 @@
 ghost use Rattle.std.specs.Prelude.{◌≡◌};
+ghost use Rattle.chip.specs.Histories.{MetAll};
 ghost use Rattle.rig.specs.Meaning.{counting, rig_of};
+ghost use Rattle.wire.specs.Laws.{Single};
 ghost use Rattle.writing.specs.Differences.{first_difference};
 ghost use Rattle.order.specs.Orders.{order_call};
-ghost use Rattle.order.specs.Laws.{OrderTells, BusyUnchanged, Uncopied, OrderSteps};
+ghost use Rattle.order.specs.Laws.{Began, Tells, OrderTells, BusyUnchanged, LeavesFree, OnlyTheRow, Uncopied, OrderSteps};
 ghost use Rattle.order.specs.Meaning.{judgement, Concluded, Ordered, order_verdict, order_count};
 
 use crate::fault::OrderFault;
@@ -73,8 +75,11 @@ pub fn order<L: Line>(
 ) -> Result<(bool, u32), OrderFault>
     ensures told { (rig_of L.chips rig.new, order_verdict result) ≡ order_call number.word row new.now (rig_of L.chips rig.old) }
     ensures counted { (counting L.chips rig.new).steps ≡ order_count (counting L.chips rig.old).steps result }
+    ensures here { MetAll (L.chips rig.old.line) → Began (order_verdict result) → Single number.word (L.chips rig.old.line) → Tells number.word row new.now (rig_of L.chips rig.old) }
     ensures tells { OrderTells }
     ensures unchanged { BusyUnchanged }
+    ensures free { LeavesFree }
+    ensures only { OnlyTheRow }
     ensures uncopied { Uncopied }
     ensures steps { OrderSteps }
 {

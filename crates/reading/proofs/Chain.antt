@@ -1,10 +1,10 @@
 -- The exits of a reading.
-use Rattle.std.proofs.Common.{◌≡◌, ℕ, ◌%◌, Bool, true, false, List, Ok, Err, Result, sym, refl, ap, ◌∙◌, subst, eq-eqb, ne_eqb}
+use Rattle.std.proofs.Common.{◌≡◌, ℕ, ◌%◌, true, false, List, Ok, Err, Result, sym, refl, ap, ◌∙◌, subst, eq-eqb, ne_eqb}
 use Rattle.line.specs.Lines.{busy}
 use Rattle.rig.specs.Rigs.{RigState}
 use Rattle.rig.specs.Meaning.{Counting}
 use Rattle.rig.specs.declared.fault.RigFault.TheVariants.{LineBusy}
-use Rattle.wire.specs.Jobs.{Job, ret, run, Said, good, Report, refused_as, reported}
+use Rattle.wire.specs.Jobs.{Job, ret, run, Said, good, reported}
 use Rattle.wire.specs.Exchanges.{Exchange, pulses, Told}
 use Rattle.wire.specs.declared.fault.ExchangeFault.{ExchangeFault}
 use Rattle.wire.specs.declared.fault.ExchangeFault.TheVariants.{Rig, Failed}
@@ -12,6 +12,7 @@ use Rattle.wire.proofs.Follows.{follow, told_run}
 use Rattle.wire.proofs.Tallies.{told_tallies}
 use Rattle.wire.proofs.Power.{first_refused}
 use Rattle.wire.proofs.Calm.{Ended, unrefused_run}
+use Rattle.reading.proofs.Parts.{call_at}
 use Rattle.reading.proofs.Quiet.{unrefused}
 use Rattle.reading.specs.declared.fault.ReadFault.{ReadFault}
 use Rattle.reading.specs.declared.fault.ReadFault.TheVariants.{BadRow, Exchange as InExchange}
@@ -53,16 +54,13 @@ module _ (x row : ℕ) where
         pub ended : Told (closes 3) d2 d3 (Ok tt) → Read x row d0 d3 (Ok (found, d3.steps))
         ended t = record { so = sym (goes from2 t1 ∙ goes from3 t2 ∙ goes (from4 found) t); begun = tt; counts = refl }
 
-  abbrev called_at : Bool → RigState → RigState × Report (List ℕ)
-  called_at t r = elim t as (λ _. RigState × Report (List ℕ)) [ false ↦ (r, refused_as 4 0 0) | true ↦ reported (run 0 (reading x row) r) ]
-
   pub row_refused : (r : RigState) (l : List ℕ) → (row % 8 ≡ 0 → ⊥) → (r, read_report (Err BadRow) l) ≡ read_call x row r
-  row_refused r l n = sym (ap (λ t. called_at t r) (ne_eqb (row % 8) 0 n))
+  row_refused r l n = sym (ap (λ t. call_at x row r t) (ne_eqb (row % 8) 0 n))
 
   called : {d d' : Counting} {r : Result (List ℕ × ℕ) ReadFault} → row % 8 ≡ 0 → d.steps ≡ 0 → Read x row d d' r → reported (read_end d' r) ≡ read_call x row d.rig
   called {d} e z o =
       ap reported (o.so ∙ ap (λ n. run n (reading x row) d.rig) z)
-      ∙ sym (ap (λ t. called_at t d.rig) (eq-eqb (row % 8) 0 e))
+      ∙ sym (ap (λ t. call_at x row d.rig t) (eq-eqb (row % 8) 0 e))
 
   pub read_ok : {d d' : Counting} {found : List ℕ} {s : ℕ} → row % 8 ≡ 0 → d.steps ≡ 0 → Read x row d d' (Ok (found, s)) → (d'.rig, read_report (Ok s) found) ≡ read_call x row d.rig
   read_ok e z o = called e z o
@@ -74,7 +72,7 @@ module _ (x row : ℕ) where
 
   -- a line that is busy refuses it at once
   pub read_busy : (r : RigState) (l : List ℕ) → row % 8 ≡ 0 → busy r.line ≡ true → (r, read_report (Err (InExchange (Rig LineBusy))) l) ≡ read_call x row r
-  read_busy r l e b = sym (ap (λ t. called_at t r) (eq-eqb (row % 8) 0 e) ∙ ap reported (first_refused 0 (reading x row) r tt b))
+  read_busy r l e b = sym (ap (λ t. call_at x row r t) (eq-eqb (row % 8) 0 e) ∙ ap reported (first_refused 0 (reading x row) r tt b))
 
   -- what the rig has counted then; on a line that was not busy no exchange is refused by the rig
   pub count_err : {d d' : Counting} (f : ReadFault) (n : ℕ) → busy d.rig.line ≡ false → Read x row d d' (Err f) → d'.steps ≡ read_count n (Err f)

@@ -1,9 +1,10 @@
 -- A reading from each of its exchanges on.
 use Rattle.std.proofs.Common.{ℕ, Bool, true, false, List}
-use Rattle.wire.specs.Jobs.{Job, ret, Said, good}
+use Rattle.rig.specs.Rigs.{RigState}
+use Rattle.wire.specs.Jobs.{Job, ret, run, Said, good, Report, refused_as, reported}
 use Rattle.wire.specs.Exchanges.{Exchange, answer, refuse, pulses}
 use Rattle.wire.specs.declared.fault.Why.TheVariants.{Garbled}
-use Rattle.reading.specs.Readings.{all_ones, finds, closes, failed}
+use Rattle.reading.specs.Readings.{all_ones, finds, closes, failed, reading}
 
 abbrev pub closed : List ℕ → Job (Said (List ℕ))
 closed row = pulses (closes 3) (λ _. ret (good row)) failed
@@ -17,3 +18,7 @@ module _ (x row : ℕ) where
 
   abbrev pub asked : List ℕ → Job (Said (List ℕ))
   asked got = pulses (judged (all_ones got)) found failed
+
+-- a call, by whether its row is one
+abbrev pub call_at : ℕ → ℕ → RigState → Bool → RigState × Report (List ℕ)
+call_at x row r t = elim t [ false ↦ (r, refused_as 4 0 0) | true ↦ reported (run 0 (reading x row) r) ]

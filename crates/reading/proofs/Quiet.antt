@@ -5,16 +5,16 @@ use Rattle.chip.specs.Steps.{ChipState, bytes_of, reset_chip, takes}
 use Rattle.bits.proofs.Choice.{pick}
 use Rattle.line.specs.Lines.{presence, busy}
 use Rattle.rig.specs.Rigs.{RigState}
-use Rattle.wire.specs.Jobs.{Job, ret, Got, done, line_busy, run, Said, good, bad, Report, refused_as, report_of, reported, send_bits, send_bytes, read_bytes}
+use Rattle.wire.specs.Jobs.{Job, ret, Got, done, line_busy, run, Said, good, bad, Report, refused_as, report_of, send_bits, send_bytes, read_bytes}
 use Rattle.wire.specs.Exchanges.{answer, refuse, pulses}
 use Rattle.wire.specs.declared.fault.Why.{Why}
 use Rattle.wire.specs.declared.fault.Why.TheVariants.{NoPresence, Garbled}
 use Rattle.wire.proofs.Leading.{send-append}
 use Rattle.wire.proofs.Power.{first_refused}
-use Rattle.wire.proofs.Calm.{NotThree, Still, Leaves, GotAll, leaves, leaves_run, NoDwell, no_dwell, bytes_run, Unrefused, Ended, unrefused_run, unrefused_opening, command_hears, command_calm, CalmAll, calm_busy, calm_send, calm_bytes, heard_send}
+use Rattle.wire.proofs.Calm.{NotThree, Still, Leaves, GotAll, leaves, leaves_run, NoDwell, no_dwell, bytes_run, Unrefused, Anyhow, Free, Freed, freed_unrefused, freed_run, Ended, unrefused_run, busy_reset, freed_opening, command_hears, command_calm, CalmAll, calm_busy, calm_send, calm_bytes, heard_to}
 use Rattle.reading.specs.Readings.{all_ones, asks, finds, closes, failed, reading}
-use Rattle.reading.specs.Laws.{BusyUnchanged, BytesStay}
-use Rattle.reading.proofs.Parts.{closed, judged, found, asked}
+use Rattle.reading.specs.Laws.{BusyUnchanged, LeavesFree, BytesStay}
+use Rattle.reading.proofs.Parts.{closed, judged, found, asked, call_at}
 
 -- its closing has no dwell
 pub still_closes : (e : ℕ) → Still (closes e)
@@ -32,37 +32,46 @@ bytes_stay r x row =
     pick (eqb (row % 8) 0) (λ (s : RigState × Report (List ℕ)). map bytes_of s.0.line ≡ map bytes_of r.line) (bytes_run 0 (reading x row) r (no_dwells x row)) refl
 
 -- a closing reset on a calm line
-pub un_close : {B : Type 0} (e : ℕ) (k : Unit {0} → Job B) (fails : Why → ℕ → Job B) → ((l : List ChipState) → Unrefused (k tt) l) → ((l : List ChipState) → Unrefused (fails NoPresence e) l)
-    → (l : List ChipState) → CalmAll l → Unrefused (pulses (closes e) k fails) l
-un_close e k fails uk ub l h = (calm_busy l h, go (presence l))
+pub un_close : (D : List ChipState → Type 0) {B : Type 0} (e : ℕ) (k : Unit {0} → Job B) (fails : Why → ℕ → Job B)
+    → ((l : List ChipState) → busy l ≡ false → Freed D (k tt) l) → ((l : List ChipState) → busy l ≡ false → Freed D (fails NoPresence e) l)
+    → (l : List ChipState) → CalmAll l → Freed D (pulses (closes e) k fails) l
+un_close D e k fails uk ub l h = (calm_busy l h, go (presence l))
   where
-    go : (b : Bool) → Unrefused (pulses (cond b (answer tt) (refuse NoPresence e)) k fails) (map reset_chip l)
-    go true = uk (map reset_chip l)
-    go false = ub (map reset_chip l)
+    go : (b : Bool) → Freed D (pulses (cond b (answer tt) (refuse NoPresence e)) k fails) (map reset_chip l)
+    go true = uk (map reset_chip l) (busy_reset l (calm_busy l h))
+    go false = ub (map reset_chip l) (busy_reset l (calm_busy l h))
+
+module _ (D : List ChipState → Type 0) (x row : ℕ) where
+  -- F0h, the address and the row, on a line that is not busy
+  pub un_find : {B : Type 0} (e : ℕ) (k : List ℕ → Job B) (fails : Why → ℕ → Job B) → ((xs : List ℕ) (l : List ChipState) → CalmAll l → Freed D (k xs) l)
+      → ((l : List ChipState) → busy l ≡ false → Freed D (fails NoPresence e) l) → (l : List ChipState) → busy l ≡ false → Freed D (pulses (finds e x row) k fails) l
+  un_find e k fails uk ub l b =
+      freed_opening D x (send_bytes (0xF0 ∷ row % 256 ∷ row / 256 ∷ []) (read_bytes 8 k)) (fails NoPresence e) l b ub
+      (λ l' o. subst (λ j. Freed D j l') (sym (send-append (bits_of 8 0xF0) (bits_all (row % 256 ∷ row / 256 ∷ [])) (read_bytes 8 k)))
+      (heard_to D Free (bits_of 8 0xF0) (send_bits (bits_all (row % 256 ∷ row / 256 ∷ [])) (read_bytes 8 k)) l' (command_hears 0xF0 l' o)
+      (calm_send D (bits_all (row % 256 ∷ row / 256 ∷ [])) (read_bytes 8 k) (map (takes (bits_of 8 0xF0)) l') (command_calm 0xF0 (λ K m r. tt) l' o)
+      (λ l'' h. calm_bytes D 8 k l'' h uk))))
 
 module _ (x row : ℕ) where
-  -- F0h, the address and the row, on a line that is not busy
-  pub un_find : {B : Type 0} (e : ℕ) (k : List ℕ → Job B) (fails : Why → ℕ → Job B) → ((xs : List ℕ) (l : List ChipState) → CalmAll l → Unrefused (k xs) l)
-      → ((l : List ChipState) → Unrefused (fails NoPresence e) l) → (l : List ChipState) → busy l ≡ false → Unrefused (pulses (finds e x row) k fails) l
-  un_find e k fails uk ub l b =
-      unrefused_opening x (send_bytes (0xF0 ∷ row % 256 ∷ row / 256 ∷ []) (read_bytes 8 k)) (fails NoPresence e) l b ub
-      (λ l' o. subst (λ j. Unrefused j l') (sym (send-append (bits_of 8 0xF0) (bits_all (row % 256 ∷ row / 256 ∷ [])) (read_bytes 8 k)))
-      (heard_send (bits_of 8 0xF0) (send_bits (bits_all (row % 256 ∷ row / 256 ∷ [])) (read_bytes 8 k)) l' (command_hears 0xF0 l' o)
-      (calm_send (bits_all (row % 256 ∷ row / 256 ∷ [])) (read_bytes 8 k) (map (takes (bits_of 8 0xF0)) l') (command_calm 0xF0 (λ K m r. tt) l' o)
-      (λ l'' h. calm_bytes 8 k l'' h uk))))
-
-  un_asked : (got : List ℕ) (l : List ChipState) → CalmAll l → Unrefused (asked x row got) l
+  un_asked : (got : List ℕ) (l : List ChipState) → CalmAll l → Freed Anyhow (asked x row got) l
   un_asked got l h = go (all_ones got)
     where
-      go : (t : Bool) → Unrefused (pulses (judged t) (found x row) failed) l
-      go true = tt
-      go false = un_find 2 closed failed (λ xs. un_close 3 (λ _. ret (good xs)) failed (λ _. tt) (λ _. tt)) (λ _. tt) l (calm_busy l h)
+      go : (t : Bool) → Freed Anyhow (pulses (judged t) (found x row) failed) l
+      go true = calm_busy l h
+      go false = un_find Anyhow x row 2 closed failed (λ xs. un_close Anyhow 3 (λ _. ret (good xs)) failed (λ _ b. b) (λ _ b. b)) (λ _ b. b) l (calm_busy l h)
+
+  pub freed : (l : List ChipState) → busy l ≡ false → Freed Anyhow (reading x row) l
+  freed l e =
+      freed_opening Anyhow x (send_bytes (0xAA ∷ []) (read_bytes 3 (asked x row))) (failed NoPresence 1) l e (λ _ b. b)
+      (λ l' o. heard_to Anyhow Free (bits_of 8 0xAA) (read_bytes 3 (asked x row)) l' (command_hears 0xAA l' o)
+      (calm_bytes Anyhow 3 (asked x row) (map (takes (bits_of 8 0xAA)) l') (command_calm 0xAA (λ K m r. tt) l' o) un_asked))
 
   pub unrefused : (l : List ChipState) → busy l ≡ false → Unrefused (reading x row) l
-  unrefused l e =
-      unrefused_opening x (send_bytes (0xAA ∷ []) (read_bytes 3 (asked x row))) (failed NoPresence 1) l e (λ _. tt)
-      (λ l' o. heard_send (bits_of 8 0xAA) (read_bytes 3 (asked x row)) l' (command_hears 0xAA l' o)
-      (calm_bytes 3 (asked x row) (map (takes (bits_of 8 0xAA)) l') (command_calm 0xAA (λ K m r. tt) l' o) un_asked))
+  unrefused l e = freed_unrefused Anyhow (reading x row) l (freed l e)
+
+pub leaves_free : LeavesFree
+leaves_free r x row b =
+    pick (eqb (row % 8) 0) (λ (s : RigState × Report (List ℕ)). Free s.0.line) (freed_run Anyhow 0 (reading x row) r.line r.fuse (freed x row r.line b)) b
 
 -- no answer of a reading has the number 3
 failed_not : (w : Why) (e : ℕ) → Leaves NotThree (failed {A = List ℕ} w e)
@@ -88,8 +97,7 @@ busy_unchanged r x row e steps q = go (eqb (row % 8) 0) q
     said (done (bad k f)) n h q = absurd (h (cc))
     said line_busy n h q = refl
 
-    go : (t : Bool) → (elim t as (λ _. RigState × Report (List ℕ)) [ false ↦ (r, refused_as 4 0 0) | true ↦ reported (run 0 (reading x row) r) ]).1 ≡ refused_as 3 e steps
-        → ((elim t as (λ _. RigState × Report (List ℕ)) [ false ↦ (r, refused_as 4 0 0) | true ↦ reported (run 0 (reading x row) r) ]).0 ≡ r) × (busy r.line ≡ true)
+    go : (t : Bool) → (call_at x row r t).1 ≡ refused_as 3 e steps → ((call_at x row r t).0 ≡ r) × (busy r.line ≡ true)
     go true q =
         begun (busy r.line) refl (said (run 0 (reading x row) r).got (run 0 (reading x row) r).steps (leaves_run NotThree 0 (reading x row) r (never_three x row)) q)
     go false q = let z : ◌≡◌ {A = ℕ} 3 4 = cc in absurd (omega arith)

@@ -14,8 +14,8 @@ use Rattle.chip.specs.Chips.{on as under}
 use Rattle.chip.specs.Steps.{ChipState, bytes_of, reset_chip, opened_by}
 use Rattle.chip.proofs.Sound.{Sound, SoundAll, met_sounds}
 use Rattle.line.specs.Lines.{presence, busy}
-use Rattle.rig.specs.Rigs.{RigState, resets}
-use Rattle.wire.specs.Jobs.{ret, Got, done, line_busy, run, Said, good, bad, Report, answered, refused_as, report_of, reported, send_bytes, read_bytes}
+use Rattle.rig.specs.Rigs.{resets}
+use Rattle.wire.specs.Jobs.{ret, Got, done, line_busy, run, Said, good, bad, answered, report_of, send_bytes, read_bytes}
 use Rattle.wire.specs.Exchanges.{answer, refuse, pulses, number_of}
 use Rattle.wire.specs.declared.fault.Why.{Why}
 use Rattle.wire.specs.declared.fault.Why.TheVariants.{NoPresence}
@@ -26,7 +26,7 @@ use Rattle.wire.proofs.One.{opened_none, opened_wide, others_quiet, absent_quiet
 use Rattle.wire.proofs.Power.{GotGood, Lost, Wary, lost_ret, lost_step, lost_exchange, wary_exchange, kept_free, good_free, good_kept}
 use Rattle.reading.specs.Readings.{all_ones, asks, finds, failed, reading, read_call}
 use Rattle.reading.specs.Laws.{Kept, ReadingTells}
-use Rattle.reading.proofs.Parts.{closed, judged, found, asked}
+use Rattle.reading.proofs.Parts.{closed, judged, found, asked, call_at}
 use Rattle.reading.proofs.Found.{found_row, closed_by}
 use Rattle.wire.proofs.Selected.{sound_wide, sound_mid, powered_one}
 
@@ -181,9 +181,6 @@ module _ (x row : ℕ) (hx : x < 2 ^ 64) (hr : row < 65536) (us vs : List ChipSt
   tag_tells n (under rc ph) (padded q) e p s b =
       subst (λ k. busy (us ++ (record { number = k; live = under rc ph; memory = padded q } ∷ vs)) ≡ false → (run 0 (reading x row) (free (us ++ (record { number = k; live = under rc ph; memory = padded q } ∷ vs)))).got ≡ done (good (row_in q.bytes row)))
       (sym e) (λ b'. ap (λ w. w.got) ((reads x row hx hr us vs nu nv (sound_wide us su) (sound_wide vs sv) q s rc ph b').so 0).1) b
-
-abbrev call_at : ℕ → ℕ → RigState → Bool → RigState × Report (List ℕ)
-call_at x row r t = elim t [ false ↦ (r, refused_as 4 0 0) | true ↦ reported (run 0 (reading x row) r) ]
 
 pub reading-tells : ReadingTells
 reading-tells r x row met hx ha hr e s = record { kept = kept; lacked = lacked }

@@ -1,9 +1,13 @@
-ghost use Rattle.std.specs.Prelude.{◌≡◌, true, map, is_err};
+ghost use Rattle.std.specs.Prelude.{◌≡◌, ◌%◌, true, false, map, is_err};
+ghost use Rattle.kind.specs.Kinds.{row_length};
+ghost use Rattle.chip.specs.Histories.{MetAll};
 ghost use Rattle.chip.specs.Steps.{bytes_of};
+ghost use Rattle.line.specs.Lines.{busy};
 ghost use Rattle.rig.specs.Meaning.{counting, rig_of};
+ghost use Rattle.wire.specs.Laws.{Single};
 ghost use Rattle.wire.specs.Selection.{LineLaws};
 ghost use Rattle.reading.specs.Readings.{read_call};
-ghost use Rattle.reading.specs.Laws.{ReadingTells, BusyUnchanged, ReadingSteps};
+ghost use Rattle.reading.specs.Laws.{Tells, ReadingTells, RowIsRead, BusyUnchanged, LeavesFree, ReadingSteps};
 ghost use Rattle.reading.specs.Meaning.{Read, read_report, read_count};
 
 use crate::exchanges::{ask, close, find};
@@ -36,8 +40,11 @@ pub fn read_row<L: Line>(
     ensures counted { (counting L.chips rig.new).steps ≡ read_count (counting L.chips rig.old).steps result }
     ensures kept { is_err result ≡ true → into.new ≡ into.old }
     ensures bytes { map bytes_of (L.chips rig.new.line) ≡ map bytes_of (L.chips rig.old.line) }
+    ensures here { MetAll (L.chips rig.old.line) → row % row_length ≡ 0 → busy (L.chips rig.old.line) ≡ false → (one : Single number.word (L.chips rig.old.line)) → Tells number.word row (rig_of L.chips rig.old) one }
     ensures tells { ReadingTells }
+    ensures found { RowIsRead }
     ensures unchanged { BusyUnchanged }
+    ensures free { LeavesFree }
     ensures steps { ReadingSteps }
     ensures lines { LineLaws }
 {

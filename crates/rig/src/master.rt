@@ -4,7 +4,6 @@ ghost use Rattle.rig.specs.Rigs.{resets, slots, dwells, pulse, made_rig, cut_rig
 ghost use Rattle.rig.specs.Meaning.{rig_of, counting, Began, beat, blows, lowered, cut_by};
 
 use crate::fault::RigFault;
-use chip::step::Step;
 use line::bus::Line;
 
 // Cuts power at the step that comes after `count` more, with a mask.
@@ -62,13 +61,13 @@ impl<L: Line> Rig<L> {
     pub fn power_up(&mut self)
         ensures { counting L.chips self.new ≡ record { rig = power_rig (rig_of L.chips self.old); steps = self.old.steps } }
     {
-        self.line.step(Step::PowerUp);
+        self.line.power_up();
     }
 
     pub fn cut(&mut self, mask: u64)
         ensures { counting L.chips self.new ≡ record { rig = cut_rig mask (rig_of L.chips self.old); steps = self.old.steps } }
     {
-        self.line.step(Step::Cut(mask));
+        self.line.cut(mask);
     }
 
     // Replaces the fuse.
@@ -90,7 +89,7 @@ impl<L: Line> Rig<L> {
         match self.fuse {
             None => false,
             Some(Fuse { count: 0, mask }) => {
-                self.line.step(Step::Cut(mask));
+                self.line.cut(mask);
                 self.fuse = None;
                 true
             }
@@ -128,7 +127,7 @@ impl<L: Line> Rig<L> {
         }
         Ok(self.step(false, |line| {
             let present = line.presence();
-            line.step(Step::Reset);
+            line.reset();
             present
         }))
     }
@@ -142,7 +141,7 @@ impl<L: Line> Rig<L> {
         }
         Ok(self.step(bit, |line| {
             let seen = bit & line.pull();
-            line.step(Step::Take(seen));
+            line.take(seen);
             seen
         }))
     }
@@ -151,7 +150,7 @@ impl<L: Line> Rig<L> {
         ensures { counting L.chips self.new ≡ record { rig = (pulse dwells (rig_of L.chips self.old)).0; steps = counted self.old.steps } }
     {
         self.step(true, |line| {
-            line.step(Step::Dwell);
+            line.dwell();
             true
         });
     }

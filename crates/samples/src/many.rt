@@ -1,7 +1,6 @@
 ghost use Rattle.std.specs.Prelude.{◌≡◌};
 ghost use Rattle.std.specs.List.{flat_map};
 
-use chip::step::Step;
 use line::bus::Line;
 
 // Lines joined to one, in their sequence.
@@ -21,9 +20,33 @@ impl<L: Line, const N: usize> Many<L, N> {
 impl<L: Line, const N: usize> Line for Many<L, N> {
     ghost chips = { λ m. flat_map L.Line.chips m.lines };
 
-    fn step(&mut self, step: Step) {
+    fn reset(&mut self) {
         for line in self.lines.iter_mut() {
-            line.step(step);
+            line.reset();
+        }
+    }
+
+    fn take(&mut self, bit: bool) {
+        for line in self.lines.iter_mut() {
+            line.take(bit);
+        }
+    }
+
+    fn dwell(&mut self) {
+        for line in self.lines.iter_mut() {
+            line.dwell();
+        }
+    }
+
+    fn cut(&mut self, mask: u64) {
+        for line in self.lines.iter_mut() {
+            line.cut(mask);
+        }
+    }
+
+    fn power_up(&mut self) {
+        for line in self.lines.iter_mut() {
+            line.power_up();
         }
     }
 

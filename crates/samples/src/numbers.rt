@@ -19,10 +19,36 @@ pub const PLUG: u64 = 0;
 // The clutch values of a gearbox.
 pub const CLUTCH: [u8; 8] = [0x12, 0x5A, 0x03, 0xE8, 0x0B, 0xB8, 0x00, 0x64];
 
-// The number in a word.
+// The number of the gearbox tag.
+#[tactic(auto, using(crate::proofs::Sums::right_sums))]
+pub fn gearbox_number() -> Number
+    ensures { result.word ≡ GEARBOX }
+{
+    Number::try_from(GEARBOX).unwrap()
+}
+
+// The number of a sealed tag.
+#[tactic(auto, using(crate::proofs::Sums::right_sums))]
+pub fn sealed_number() -> Number
+    ensures { result.word ≡ SEALED }
+{
+    Number::try_from(SEALED).unwrap()
+}
+
+// The number of a practice plug.
+#[tactic(auto, using(crate::proofs::Sums::right_sums))]
+pub fn plug_number() -> Number
+    ensures { result.word ≡ PLUG }
+{
+    Number::try_from(PLUG).unwrap()
+}
+
+// The number in a word; the wrong words above have none.
+#[tactic(auto, using(crate::proofs::Sums::wrong_sums))]
 pub fn number_of(word: u64) -> Result<Number, SampleFault>
     ensures ok { IfOk result (λ n. (n.word ≡ word) × (checks word ≡ true)) }
     ensures err { IfErr result (λ e. (e ≡ SampleFault.NoNumber) × (checks word ≡ false)) }
+    ensures wrong { (checks WRONG_GEARBOX ≡ false) × (checks WRONG_SEALED ≡ false) }
 {
     Ok(Number::try_from(word)?)
 }

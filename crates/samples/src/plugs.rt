@@ -6,6 +6,7 @@ ghost use Rattle.samples.specs.Plugs.{plug_word, plug_chip, chip_of};
 use crate::fault::SampleFault;
 use crate::many::Many;
 use crate::tags::{Tag, tag_of};
+use number::registration::Number;
 use plug::practice::PracticePlug;
 use std::array;
 use sums::sums::crc8;
@@ -26,11 +27,17 @@ fn word_of(serial: u8) -> u64
     u64::from_le_bytes([FAMILY, serial, 0, 0, 0, 0, 0, sum])
 }
 
+fn number_with(serial: u8) -> Number
+    ensures { result.word ≡ plug_word serial }
+{
+    Number::try_from(word_of(serial)).unwrap()
+}
+
 // The plug with a serial number, without power; its bytes are all 00h.
 pub fn plug(serial: u8) -> Result<Plug, SampleFault>
     ensures { IsOkAnd result (λ t. chip_of t ≡ plug_chip serial) }
 {
-    tag_of(word_of(serial), &[0; 64])
+    tag_of(number_with(serial), &[0; 64])
 }
 
 // Plugs with consecutive serial numbers from 0 on.

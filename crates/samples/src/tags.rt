@@ -1,14 +1,13 @@
-ghost use Rattle.std.specs.Prelude.{◌≡◌, ◌≢◌, true, false, ◌↔◌, IfOk, IsErrOf, EachIndex, length, slice_index};
+ghost use Rattle.std.specs.Prelude.{◌≡◌, ◌↔◌, IsOk, IfOk, IfErr, EachIndex, length, slice_index};
 ghost use Rattle.memory.specs.Memories.{padded};
-ghost use Rattle.number.specs.Numbers.{checks};
 ghost use Rattle.chip.specs.Meaning.{model as chip_of};
 ghost use Rattle.scratchpad.specs.Meaning.{model};
 ghost use Rattle.tag.specs.Tags.{made_tag};
 
 use crate::fault::SampleFault;
-use crate::numbers::number_of;
 use kind::tags::Kind;
 use line::ends::OneTag;
+use number::registration::Number;
 use scratchpad::pad::PadMemory;
 use std::array;
 use tag::making::make_tag;
@@ -16,13 +15,12 @@ use tag::making::make_tag;
 // A tag with the scratchpad protocol, which is a line of one chip.
 pub type Tag<K> = OneTag<PadMemory<K>>;
 
-// A tag of any kind from its number's word and its image, without power.
-pub fn tag_of<K: Kind + Drop>(word: u64, image: &[u8]) -> Result<Tag<K>, SampleFault>
-    ensures made { IfOk result (λ t. chip_of (λ p. padded (model K.rules K.bytes p)) t.chip ≡ made_tag K.rules word image.now) }
-    ensures no_number { IsErrOf result SampleFault.NoNumber ↔ (checks word ≡ false) }
-    ensures no_tag { IsErrOf result SampleFault.NoTag ↔ ((checks word ≡ true) × (length image.now ≢ K.rules.image)) }
+// A tag of any kind from its number and its image, without power.
+pub fn tag_of<K: Kind + Drop>(number: Number, image: &[u8]) -> Result<Tag<K>, SampleFault>
+    ensures made { IfOk result (λ t. chip_of (λ p. padded (model K.rules K.bytes p)) t.chip ≡ made_tag K.rules number.word image.now) }
+    ensures ok { IsOk result ↔ (length image.now ≡ K.rules.image) }
+    ensures err { IfErr result (λ e. e ≡ SampleFault.NoTag) }
 {
-    let number = number_of(word)?;
     let mut place = None;
     make_tag(&mut place, number, image)?;
     place.ok_or(SampleFault::NoTag)

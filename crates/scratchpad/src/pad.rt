@@ -1,9 +1,8 @@
 ghost use Rattle.std.specs.Prelude.{◌≡◌, [], ◌∷◌, drop};
 ghost use Rattle.bits.specs.Bits.{bits_all};
 ghost use Rattle.sums.specs.Sums.{crc16};
-ghost use Rattle.memory.specs.Commands.{meant};
 ghost use Rattle.memory.specs.Memories.{padded};
-ghost use Rattle.memory.specs.Scratchpads.{burn_pad, fresh, on, sending, idle, working, take_pad, got_byte, obey, copies, load_data, report};
+ghost use Rattle.memory.specs.Scratchpads.{burn_pad, fresh, on, sending, idle, working, take_pad, got_byte, command_of, obey, load_data, report};
 ghost use Rattle.registers.specs.Meaning.{regs_of};
 ghost use Rattle.scratchpad.specs.Meaning.{model, doing, closing, Awaits, awaited};
 
@@ -11,7 +10,6 @@ use crate::phase::{Await, Phase};
 use bits::shift::{Incoming, Outgoing};
 use kind::rows::WHOLE_ROW;
 use kind::tags::Kind;
-use memory::command::{MemoryCommand, UnknownCommand};
 use memory::protocol::Protocol;
 use registers::offset::Offset;
 use registers::registers::Registers;
@@ -111,10 +109,7 @@ impl<K: Kind> PadMemory<K> {
         ensures { model K.rules K.bytes self.new ≡ working (model K.rules K.bytes self.old) (got_byte K.rules (K.bytes self.old.kind) (awaited what) byte (regs_of self.old.regs)) }
     {
         match what {
-            Await::Command => match MemoryCommand::try_from(byte) {
-                Ok(command) => self.obey(command),
-                Err(UnknownCommand(_)) => self.phase = Phase::Idle,
-            },
+            Await::Command => self.obey(byte),
             Await::LoadLow => {
                 self.regs.ta1 = byte;
                 self.regs.e = Offset::of(byte);
@@ -131,7 +126,12 @@ impl<K: Kind> PadMemory<K> {
             Await::LoadData { offset, sum } => self.data_byte(offset, sum, byte),
             Await::CopyLow => self.phase = awaiting(Await::CopyHigh { low: byte }),
             Await::CopyHigh { low } => self.phase = awaiting(Await::CopyStatus { low, high: byte }),
-            Await::CopyStatus { low, high } if self.copy_begins(low, high, byte) => {
+            Await::CopyStatus { low, high }
+                if low == self.regs.ta1
+                    && high == self.regs.ta2
+                    && byte == self.regs.status()
+                    && !self.regs.pf
+                    && self.kind.copy(self.regs.row()) => {
                 self.regs.aa = true;
                 self.phase = Phase::Programming;
             }
@@ -143,32 +143,24 @@ impl<K: Kind> PadMemory<K> {
         }
     }
 
-    // The three bytes are the target and the status, the scratchpad is whole, and the row may be copied to.
-    fn copy_begins(&self, low: u8, high: u8, status: u8) -> bool
-        ensures { result ≡ copies K.rules (K.bytes self.now.kind) low high status (regs_of self.now.regs) }
+    // A command of the memory phase.
+    fn obey(&mut self, byte: u8)
+        ensures { model K.rules K.bytes self.new ≡ working (model K.rules K.bytes self.old) (obey K.rules (K.bytes self.old.kind) (command_of byte) (regs_of self.old.regs)) }
     {
-        low == self.regs.ta1
-            && high == self.regs.ta2
-            && status == self.regs.status()
-            && !self.regs.pf
-            && self.kind.copy(self.regs.row())
-    }
-
-    // A command of the memory phase. It is data from the line: one arm for each.
-    fn obey(&mut self, command: MemoryCommand)
-        ensures { model K.rules K.bytes self.new ≡ working (model K.rules K.bytes self.old) (obey K.rules (K.bytes self.old.kind) (meant command) (regs_of self.old.regs)) }
-    {
-        match command {
-            MemoryCommand::WriteScratchpad => {
+        match byte {
+            // Write Scratchpad.
+            0x0F => {
                 self.regs.pf = true;
                 self.regs.aa = false;
                 self.phase = awaiting(Await::LoadLow);
             }
-            MemoryCommand::ReadScratchpad => {
-                self.phase = self.report_from(0, crc16_more(0, command.byte()));
-            }
-            MemoryCommand::CopyScratchpad => self.phase = awaiting(Await::CopyLow),
-            MemoryCommand::ReadMemory => self.phase = awaiting(Await::ReadLow),
+            // Read Scratchpad.
+            0xAA => self.phase = self.report_from(0, crc16_more(0, byte)),
+            // Copy Scratchpad.
+            0x55 => self.phase = awaiting(Await::CopyLow),
+            // Read Memory.
+            0xF0 => self.phase = awaiting(Await::ReadLow),
+            _ => self.phase = Phase::Idle,
         }
     }
 
@@ -193,11 +185,11 @@ impl<K: Kind> PadMemory<K> {
     }
 }
 
-// The sum of what is sent before the data: the command and the target.
+// The sum of what is sent before the data: the command 0Fh and the target.
 fn head_sum(low: u8, high: u8) -> u16
     ensures { result ≡ crc16 0 (0x0F ∷ low ∷ high ∷ []) }
 {
-    crc16(&[MemoryCommand::WriteScratchpad.byte(), low, high])
+    crc16(&[0x0F, low, high])
 }
 
 // Begins to take a byte.

@@ -27,6 +27,10 @@ said d (Err (Full p s)) l b = refl
 said d (Err (InExchange (Rig LineBusy))) l b = refl
 said d (Err (InExchange (Failed why e s))) l b = refl
 
+-- a survey that began is not refused for want of a place
+pub never_none : (r : Result (ℕ × ℕ) SurveyFault) → Begun r → r ≡ Err NoPlace → ⊥
+never_none r b e = subst Begun e b
+
 pub none-refused : (count : ℕ) (r : RigState) (l : List ℕ) → count ≡ 0 → (r, survey_answer (Err NoPlace) l) ≡ survey_call count r
 none-refused count r l e = sym (ap (λ t. called_at t count r) (eq-eqb count 0 e))
 

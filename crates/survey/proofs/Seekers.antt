@@ -288,33 +288,36 @@ module _ {A : Type 0} (P : A → Type 0) (lost : Job A) (pl : P (dead_run lost))
   dead_step p k h = h
 
   -- the third slot is cut
-  cut_third : (n : ℕ) (path : List Bool) (k : List Bool → Next → Job A) (S : Rests) → ((nx : Next) → P (dead_run (k (found (suc n) path S) nx)))
+  cut_third : (n : ℕ) (path : List Bool) (k : List Bool → Next → Job A) (S : Rests) → P (dead_run (k (found (suc n) path S) (next (suc n) path S)))
       → P (dead_run (triples lost n (tail_of path) (λ bs nx. k (taken path S ∷ bs) (onward (forked path S) (taken path S) nx))))
-  cut_third zero path k S h = dead_triples zero (tail_of path) (λ bs nx. k (taken path S ∷ bs) (onward (forked path S) (taken path S) nx)) (λ _. h (onward (forked path S) (taken path S) over))
+  cut_third zero path k S h = dead_triples zero (tail_of path) (λ bs nx. k (taken path S ∷ bs) (onward (forked path S) (taken path S) nx)) (λ _. h)
   cut_third (suc n) path k S h = dead_triples (suc n) (tail_of path) (λ bs nx. k (taken path S ∷ bs) (onward (forked path S) (taken path S) nx)) (λ z. absurd (omega arith))
 
   -- the second is: where the first said 0, that is the bit at the last place
   low_taken : (path : List Bool) (S : Rests) → is_nil (branch false S) ≡ false → is_nil (branch true S) ≡ true → taken path S ≡ false
   low_taken path S e q = ap₂ (λ a b. chosen a b path) e q
 
-  cut_second : (n : ℕ) (path : List Bool) (k : List Bool → Next → Job A) (S : Rests) → Uniform (suc n) S → Determined (suc n) S → ((nx : Next) → P (dead_run (k (found (suc n) path S) nx)))
+  low_next : (path : List Bool) (S : Rests) → is_nil (branch false S) ≡ false → is_nil (branch true S) ≡ true → next 1 path S ≡ over
+  low_next path S e q = ap₂ (λ a b. onward (not a && not b && not (chosen a b path)) (chosen a b path) over) e q
+
+  cut_second : (n : ℕ) (path : List Bool) (k : List Bool → Next → Job A) (S : Rests) → Uniform (suc n) S → Determined (suc n) S → P (dead_run (k (found (suc n) path S) (next (suc n) path S)))
       → P (dead_run (third lost n path k (is_nil (branch false S)) true (is_nil (branch false S) && true)))
   cut_second n path k S u d h = go n u d h (is_nil (branch false S)) refl
     where
-      after_low : (m : ℕ) → Uniform (suc m) S → Determined (suc m) S → ((nx : Next) → P (dead_run (k (found (suc m) path S) nx))) → is_nil (branch false S) ≡ false
+      after_low : (m : ℕ) → Uniform (suc m) S → Determined (suc m) S → P (dead_run (k (found (suc m) path S) (next (suc m) path S))) → is_nil (branch false S) ≡ false
           → P (dead_run (triples lost m (tail_of path) (λ bs nx. k (false ∷ bs) (onward false false nx))))
       after_low zero u' d' h' e =
           dead_triples zero (tail_of path) (λ bs nx. k (false ∷ bs) (onward false false nx))
-          (λ _. subst (λ b. P (dead_run (k (b ∷ []) over))) (low_taken path S e (last_one S u' d' e)) (h' over))
+          (λ _. subst₂ (λ b nx. P (dead_run (k (b ∷ []) nx))) (low_taken path S e (last_one S u' d' e)) (low_next path S e (last_one S u' d' e)) h')
       after_low (suc m) u' d' h' e = dead_triples (suc m) (tail_of path) (λ bs nx. k (false ∷ bs) (onward false false nx)) (λ z. absurd (omega arith))
 
-      go : (m : ℕ) → Uniform (suc m) S → Determined (suc m) S → ((nx : Next) → P (dead_run (k (found (suc m) path S) nx))) → (a : Bool) → is_nil (branch false S) ≡ a → P (dead_run (third lost m path k a true (a && true)))
+      go : (m : ℕ) → Uniform (suc m) S → Determined (suc m) S → P (dead_run (k (found (suc m) path S) (next (suc m) path S))) → (a : Bool) → is_nil (branch false S) ≡ a → P (dead_run (third lost m path k a true (a && true)))
       go m u' d' h' true e = pl
       go m u' d' h' false e = dead_step (slots false) (λ _. triples lost m (tail_of path) (λ bs nx. k (false ∷ bs) (onward false false nx))) (after_low m u' d' h' e)
 
   -- a pass, whichever step of it is cut: what k makes of the number found decides
   pub pass_safe : (n : ℕ) (path : List Bool) (k : List Bool → Next → Job A) (D : List Seeker) → Uniform n (rests D) → Valid n path (rests D) → Determined n (rests D)
-      → ((nx : Next) → P (dead_run (k (found n path (rests D)) nx)))
+      → P (dead_run (k (found n path (rests D)) (next n path (rests D))))
       → ((D' : List Seeker) → here (line_at itself D') ≡ here (line_at itself D) → CutSafe P (k (found n path (rests D)) (next n path (rests D))) (line_at itself D'))
       → CutSafe P (triples lost n path k) (line_at itself D)
   pass_safe zero path k D u v d h g = g D refl
@@ -337,7 +340,7 @@ module _ {A : Type 0} (P : A → Type 0) (lost : Job A) (pl : P (dead_run lost))
                     (sym (ap (λ y. map (take_bit y) (line_at choice D)) (ap (λ y. t && y) (pull_third D) ∙ and-true t) ∙ take_third t n D u))
                     (pass_safe n (tail_of path) (λ bs nx. k (t ∷ bs) (onward (forked path S) t nx)) (narrow t D)
                     (subst (Uniform n) (sym e) (uniform_branch t n S u)) (subst (Valid n (tail_of path)) (sym e) w.0) (subst (Determined n) (sym e) (determined_branch t n S d))
-                    (λ nx. subst (λ S'. P (dead_run (k (t ∷ found n (tail_of path) S') (onward (forked path S) t nx)))) (sym e) (h (onward (forked path S) t nx)))
+                    (subst (λ S'. P (dead_run (k (t ∷ found n (tail_of path) S') (onward (forked path S) t (next n (tail_of path) S'))))) (sym e) h)
                     (λ D' q. subst (λ S'. CutSafe P (k (t ∷ found n (tail_of path) S') (onward (forked path S) t (next n (tail_of path) S'))) (line_at itself D')) (sym e) (g D' (q ∙ here_narrow t n D u)))),
               )),
         ),

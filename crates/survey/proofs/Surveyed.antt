@@ -8,14 +8,16 @@ use Rattle.bits.proofs.Choice.{pick}
 use Rattle.chip.proofs.Sound.{SoundAll, met_sounds}
 use Rattle.line.specs.Lines.{busy}
 use Rattle.rig.specs.Rigs.{RigState, FuseState, resets}
-use Rattle.wire.specs.Jobs.{Job, ret, Got, done, line_busy, Ran, run, good, bad, Report, answered, refused_as, send_bits}
+use Rattle.wire.specs.Jobs.{Job, ret, Got, done, line_busy, Ran, run, good, bad, Report, answered, refused_as, steps_in, send_bits}
 use Rattle.wire.specs.Laws.{Uncut}
 use Rattle.wire.proofs.Leading.{free, Leads, leads_step}
 use Rattle.wire.proofs.Power.{on_step}
 use Rattle.wire.proofs.Calm.{NoDwell, bytes_run, no_send, GotAll, leaves_run}
 use Rattle.wire.proofs.Cuts.{CutSafe, GotIt, safe_run, uncut_free}
+use Rattle.wire.proofs.Counts.{GotAt, leaves_at}
+use Rattle.survey.proofs.Counted.{Takes, at-passes, room_most}
 use Rattle.survey.specs.Surveys.{Next, over, way, onward, tail_of, chosen, triples, passes, most_places, room_of, listed, survey_call}
-use Rattle.survey.specs.Laws.{numbers_on, In, Before, BeforeEach, Ordered, Sequence, Front, Lists, SurveyComplete, BusyUnchanged, BytesStay}
+use Rattle.survey.specs.Laws.{numbers_on, In, Before, BeforeEach, Ordered, Sequence, Front, Lists, SurveyComplete, BusyUnchanged, BytesStay, most_steps, SurveyBound}
 use Rattle.survey.proofs.Called.{told, surveyed}
 use Rattle.survey.proofs.Enumerate.{Rests, is_nil, enum_none, from, after, next, some-way, pass_law, Uniform, Valid}
 use Rattle.survey.proofs.Seekers.{here, Determined}
@@ -24,7 +26,7 @@ use Rattle.survey.proofs.Sequences.{BeforeAll, enum_ordered, enum_in, in_enum}
 use Rattle.survey.proofs.Sequences.{Ordered as OrderedRests}
 use Rattle.survey.proofs.Starts.{Named, named, listed_here, wide_listed, proper, uniform_here, presence_here, determined}
 use Rattle.survey.proofs.Complete.{Out, going, seeks, after_reset, lists, fills}
-use Rattle.survey.proofs.Fronts.{Kept, safe, safe_none}
+use Rattle.survey.proofs.Fronts.{Within, Kept, safe, safe_none}
 use Rattle.survey.proofs.Unrefused.{busy_first, NotRefused, never_three}
 
 came_to : (p : Job Out) (l l' : List ChipState) (out : Out) → Leads p l (ret out) l' → (run 0 p (free l)).got ≡ done out
@@ -57,6 +59,16 @@ on_some n path S u v = let q : length (from n path S) ≡ suc (length (after n (
 one_less : (t m : ℕ) → suc t ≡ 1 + m → t ≡ m
 one_less t m e = omega arith
 
+length_values : (L : Rests) → length (map value L) ≡ length L
+length_values [] = refl
+length_values (y ∷ L) = ap suc (length_values L)
+
+one_and : (m n : ℕ) → m ≡ n → 1 + n ≡ suc m
+one_and m n e = omega arith
+
+some_by : (m n : ℕ) → m ≡ n → 0 < n → 0 < m
+some_by m n e h = omega arith
+
 -- a survey along a way, with enough room and with too little
 on_lists : (k : ℕ) (path : List Bool) (l : List ChipState) → busy l ≡ false → Valid 64 path (here l) → length (from_on 64 path (here l)) ≤ k
     → (run 0 (passes k 1 path []) (free l)).got ≡ done (good (length (from_on 64 path (here l))), map value (from_on 64 path (here l)))
@@ -76,7 +88,10 @@ on_fills k path l b v h =
 
 on_safe : (k : ℕ) (path : List Bool) (l : List ChipState) → busy l ≡ false → Valid 64 path (here l) → Determined 64 (here l) → CutSafe (Kept (map value (from_on 64 path (here l)))) (passes k 1 path []) l
 unfolding from_on
-on_safe k path l b v d = safe (map value (from 64 path (here l))) k 1 path [] l b v d refl
+on_safe k path l b v d =
+    let n = length_values (from 64 path (here l)) in
+    safe (map value (from 64 path (here l))) (some_by (length (map value (from 64 path (here l)))) (length (from 64 path (here l))) n (on_some 64 path (here l) (uniform_here l) v))
+    k 1 path [] l b v d refl (one_and (length (map value (from 64 path (here l)))) (length (from 64 path (here l))) n)
 
 -- the sequence of a line
 abbrev sequence : List ChipState → List ℕ
@@ -119,10 +134,6 @@ sequence_of l s L o into onto = record {
 
 in_sequence : (l : List ChipState) → SoundAll l → Sequence l (sequence l)
 in_sequence l s = sequence_of l s (from_on 64 [] (here l)) (on_ordered 64 (here l)) (λ y h. on_in 64 y (here l) (uniform_here l) h) (λ y h. in_on 64 y (here l) (uniform_here l) h)
-
-length_values : (L : Rests) → length (map value L) ≡ length L
-length_values [] = refl
-length_values (y ∷ L) = ap suc (length_values L)
 
 take_values : (n : ℕ) (L : Rests) → map value (take n L) ≡ take n (map value L)
 take_values zero L = refl
@@ -187,7 +198,7 @@ told_answer room xs g n (all z w q) h k = ap (λ t. listed t n) q
 told_answer room xs g n (front z q) h k = absurd (omega arith)
 
 told_front : (xs : List ℕ) (g : Got Out) (n k e steps : ℕ) (found : List ℕ) → GotIt (Kept xs) g → listed g n ≡ (refused_as k e steps, found) → Front found xs
-told_front xs (done s) n k e steps found h q = subst (λ z. Front z xs) (ap (λ (p : Report ℕ × List ℕ). p.1) q) h
+told_front xs (done s) n k e steps found h q = subst (λ z. Front z xs) (ap (λ (p : Report ℕ × List ℕ). p.1) q) h.0
 told_front xs line_busy n k e steps found h q = absurd h
 
 pub room_some : (places : ℕ) → (places ≡ 0 → ⊥) → (k : ℕ) × (room_of places ≡ suc k)
@@ -198,7 +209,7 @@ kept : (k : ℕ) (l : List ChipState) (f : FuseState) → SoundAll l → busy l 
 kept k l f s b = safe_run (Kept (sequence l)) 0 (passes (suc k) 1 [] []) l f (go (is_nil (here l)) refl)
   where
     go : (t : Bool) → is_nil (here l) ≡ t → CutSafe (Kept (sequence l)) (passes (suc k) 1 [] []) l
-    go true e = safe_none (sequence l) k 1 [] [] l b (presence_here l true e) (sequence l, refl)
+    go true e = subst (λ L. CutSafe (Kept (map value L)) (passes (suc k) 1 [] []) l) (sym (on_none 64 (here l) e)) (safe_none k l b (presence_here l true e))
     go false e = on_safe (suc k) [] l b (some-way 64 (here l) (uniform_here l) e) (determined l s)
 
 abbrev Answer : Type 0
@@ -305,3 +316,34 @@ no_passes (suc room) pass path got =
 pub bytes_stay : BytesStay
 bytes_stay r places =
     pick (eqb places 0) (λ (a : Answer). map bytes_of a.0.line ≡ map bytes_of r.line) refl (bytes_run 0 (passes (room_of places) 1 [] []) r (no_passes (room_of places) 1 [] []))
+
+-- as many numbers as the sequence has, and their steps
+bounded : (n k : ℕ) (out : Out) → Within n out.0 → Takes k out → steps_in (listed (done out) k).0 ≤ most_steps n
+bounded zero k (good c, xs) m h = let z : ◌≡◌ {A = ℕ} 0 1 = cc in absurd (omega arith)
+bounded zero k (bad j e, xs) m h = let c : j ≡ 5 = cc in let d : e ≡ 1 = cc in let q = h.1 c in omega (arith, d, q)
+bounded (suc n) k (good c, xs) m h = omega (arith, m, h)
+bounded (suc n) k (bad j e, xs) m h = let q = h.2 in omega (arith, m, q)
+
+bounded_got : (xs : List ℕ) (k : ℕ) (g : Got Out) → GotIt (Kept xs) g → GotAt Takes k g → steps_in (listed g k).0 ≤ most_steps (length xs)
+bounded_got xs k (done out) m h = bounded (length xs) k out m.1 h
+bounded_got xs k line_busy m h = absurd m
+
+abbrev Bounded : ℕ → Answer → Type 0
+Bounded n a = steps_in a.1.0 ≤ most_steps n
+
+pub survey_bound : SurveyBound
+survey_bound r places m = (sequence r.line, in_sequence r.line s, go (cases_le places 0) (busy r.line) refl)
+  where
+    s : SoundAll r.line
+    s = met_sounds r.line m
+
+    n : ℕ
+    n = length (sequence r.line)
+
+    go : (places ≤ 0) ⊎ (0 < places) → (t : Bool) → busy r.line ≡ t → Bounded n (survey_call places r)
+    go (inl h) t b = let z : places ≡ 0 = omega arith in subst (λ p. Bounded n (survey_call p r)) (sym z) (omega arith)
+    go (inr h) true b = subst (Bounded n) (survey_busy places r (λ z. omega arith) b) (omega arith)
+    go (inr h) false b =
+        subst (Bounded n) (sym (surveyed places r (λ z. omega arith)))
+        (bounded_got (sequence r.line) (run 0 (passes (room_of places) 1 [] []) r).steps (run 0 (passes (room_of places) 1 [] []) r).got (keeps r places (λ z. omega arith) s b)
+        (leaves_at Takes 0 (passes (room_of places) 1 [] []) r (at-passes (room_of places) 0 [] [] (let h : room_of places ≤ 64 = room_most places in omega arith))))

@@ -1,11 +1,11 @@
 -- Laws of every survey on every rig.
-use Rattle.std.specs.Prelude.{◌≡◌, ℕ, ◌*◌, ◌<◌, ◌≤◌, Bool, true, false, ◌⊎◌, List, [], ◌∷◌, ◌++◌, map, length, take, ◌≢◌}
+use Rattle.std.specs.Prelude.{◌≡◌, ℕ, zero, suc, ◌+◌, ◌-◌, ◌*◌, ◌<◌, ◌≤◌, Bool, true, false, ◌⊎◌, List, [], ◌∷◌, ◌++◌, map, length, take, ◌≢◌}
 use Rattle.bits.specs.Bits.{bits_of}
 use Rattle.chip.specs.Steps.{ChipState, has_power, bytes_of}
 use Rattle.chip.specs.Histories.{MetAll}
 use Rattle.line.specs.Lines.{busy}
 use Rattle.rig.specs.Rigs.{RigState}
-use Rattle.wire.specs.Jobs.{answered, refused_as}
+use Rattle.wire.specs.Jobs.{answered, refused_as, steps_in}
 use Rattle.wire.specs.Laws.{Uncut}
 use Rattle.survey.specs.Surveys.{passes, room_of, survey_call}
 
@@ -81,3 +81,19 @@ SurveySteps =
     (r : RigState) (places count steps : ℕ) (found : List ℕ)
     → ((survey_call places r).1 ≡ (answered count steps, found)) ⊎ ((survey_call places r).1 ≡ (refused_as 9 count steps, found))
     → steps ≡ 201 * count
+
+-- one refused with 5 in a pass made the passes before it, and then one reset that nobody answered
+abbrev pub AbsentSteps : Type 0
+AbsentSteps =
+    (r : RigState) (places pass steps : ℕ) (found : List ℕ) → (survey_call places r).1 ≡ (refused_as 5 pass steps, found) → steps ≡ 201 * (pass - 1) + 1
+
+-- the most steps where so many numbers are to be listed: a pass for each; where there is none, one reset
+abbrev pub most_steps : ℕ → ℕ
+most_steps zero = 1
+most_steps (suc n) = 201 * suc n
+
+-- answered, refused or cut, a survey takes at most 201 steps for each number that a powered chip has at its start, and 1 where none has
+abbrev pub SurveyBound : Type 0
+SurveyBound =
+    (r : RigState) (places : ℕ) → MetAll r.line
+    → (xs : List ℕ) × Sequence r.line xs × (steps_in (survey_call places r).1.0 ≤ most_steps (length xs))

@@ -1,8 +1,8 @@
-ghost use Rattle.std.specs.Prelude.{◌≡◌, ◌≤◌, map, length};
+ghost use Rattle.std.specs.Prelude.{◌≡◌, ◌≤◌, ◌↔◌, map, length, IsErrOf};
 ghost use Rattle.chip.specs.Steps.{bytes_of};
 ghost use Rattle.rig.specs.Meaning.{counting, rig_of};
 ghost use Rattle.survey.specs.Surveys.{survey_call, room_of};
-ghost use Rattle.survey.specs.Laws.{SurveyComplete, BusyUnchanged, SurveySteps};
+ghost use Rattle.survey.specs.Laws.{SurveyComplete, BusyUnchanged, SurveySteps, AbsentSteps, SurveyBound};
 ghost use Rattle.survey.specs.Listing.{Surveyed, survey_answer, survey_count, Later};
 
 use crate::fault::SurveyFault;
@@ -48,7 +48,10 @@ pub fn survey<L: Line>(rig: &mut Rig<L>, places: &mut [u64]) -> Result<(u8, u32)
     ensures bytes { map bytes_of (L.chips rig.new.line) ≡ map bytes_of (L.chips rig.old.line) }
     ensures complete { SurveyComplete }
     ensures unchanged { BusyUnchanged }
+    ensures no_place { IsErrOf result SurveyFault.NoPlace ↔ (length places.old ≡ 0) }
     ensures steps { SurveySteps }
+    ensures absent { AbsentSteps }
+    ensures bound { SurveyBound }
 {
     if places.len() == 0 {
         return Err(SurveyFault::NoPlace);

@@ -1,7 +1,9 @@
 #![tactic(auto)]
 
 mod examples;
+mod streams;
 mod table;
+mod texts;
 
 // Prints both check sums of each line of hexadecimal bytes.
 fn main(rt: HostRuntime) -> anyhow::Result<()> {

@@ -12,10 +12,10 @@ use Rattle.chip.specs.Chips.{on as under, idle as resting, sending as saying, co
 use Rattle.chip.specs.Steps.{ChipState, bytes_of, is_busy, take_bit, reset_chip, cut_chip, takes, opened_as}
 use Rattle.bits.proofs.Choice.{pick}
 use Rattle.chip.proofs.Keeps.{bytes_taken, bytes_reset, bytes_cut_idle}
-use Rattle.chip.proofs.Select.{Hears, listening, select_some, takes-idle, takes-off, hears_idle, hears_off}
+use Rattle.chip.proofs.Select.{Hears, after_reset, listening, reset_free, select_some, takes-idle, takes-off, hears_idle, hears_off}
 use Rattle.line.specs.Lines.{presence, pull, busy}
 use Rattle.rig.specs.Rigs.{RigState, FuseState, none, after, Pulse, resets, slots, dwells, act, answer, deaf, pulse_by, pulse, refused, counted}
-use Rattle.rig.proofs.Unpowered.{cut_off}
+use Rattle.rig.proofs.Unpowered.{AllOff, busy_line, off-act, off-refused, cut_off}
 use Rattle.wire.specs.Jobs.{Job, ret, step, Got, done, line_busy, Ran, run, Said, good as fine, bad as wrong, send_bits, read_bits, read_bytes, send_bytes}
 use Rattle.wire.specs.Exchanges.{Exchange, answer as answers, refuse, opening, closing, dwelling, send, read, pulses}
 use Rattle.wire.specs.declared.fault.Why.{Why}
@@ -234,9 +234,44 @@ module _ {A B : Type 0} (P : B → Type 0) (good : A → Job B) (bad : Why → �
 
 -- 2. no pulse is refused
 
+-- a line that is ready for a pulse: it is not busy, or, at a dwell, as D says
+abbrev pub Ready : (List ChipState → Type 0) → Pulse → List ChipState → Type 0
+Ready D resets l = busy l ≡ false
+Ready D (slots b) l = busy l ≡ false
+Ready D dwells l = D l
+
+pub ready_free : (D : List ChipState → Type 0) (p : Pulse) (l : List ChipState) → Ready D p l → refused p l ≡ false
+ready_free D resets l h = h
+ready_free D (slots b) l h = h
+ready_free D dwells l h = refl
+
+-- every pulse of a job finds the line ready, and Q holds of the line at its end
+abbrev pub Meets : (D Q : List ChipState → Type 0) → {A : Type 0} → Job A → List ChipState → Type 0
+Meets D Q (ret a) l = Q l
+Meets D Q (step p k) l = Ready D p l × Meets D Q (k (answer p l)) (act p l)
+
+abbrev pub Anyhow : List ChipState → Type 0
+Anyhow l = Unit {0}
+
 abbrev pub Unrefused : {A : Type 0} → Job A → List ChipState → Type 0
-Unrefused (ret a) l = Unit {0}
-Unrefused (step p k) l = (refused p l ≡ false) × Unrefused (k (answer p l)) (act p l)
+Unrefused p l = Meets Anyhow Anyhow p l
+
+-- and no chip programs at its end
+abbrev pub Free : List ChipState → Type 0
+Free l = busy l ≡ false
+
+abbrev pub Freed : (List ChipState → Type 0) → {A : Type 0} → Job A → List ChipState → Type 0
+Freed D p l = Meets D Free p l
+
+module _ (D : List ChipState → Type 0) where
+  ready_anyhow : (p : Pulse) (l : List ChipState) → Ready D p l → Ready Anyhow p l
+  ready_anyhow resets l h = h
+  ready_anyhow (slots b) l h = h
+  ready_anyhow dwells l h = tt
+
+  pub freed_unrefused : {A : Type 0} (p : Job A) (l : List ChipState) → Freed D p l → Unrefused p l
+  freed_unrefused (ret a) l u = tt
+  freed_unrefused (step p k) l u = (ready_anyhow p l u.0, freed_unrefused (k (answer p l)) (act p l) u.1)
 
 -- then none is, whatever the fuse
 abbrev pub Ended : {A : Type 0} → Got A → Type 0
@@ -246,12 +281,40 @@ Ended line_busy = ⊥
 pub unrefused_run : {A : Type 0} (n : ℕ) (p : Job A) (l : List ChipState) (f : FuseState) → Unrefused p l → Ended (run n p (record { line = l; fuse = f })).got
 unrefused_run n (ret a) l f u = tt
 unrefused_run n (step p k) l f u =
-    subst (λ t. Ended (on_step n p k (record { line = l; fuse = f }) t).got) (sym u.0) (go f (λ g. unrefused_run (counted n) (k (answer p l)) (act p l) g u.1))
+    subst (λ t. Ended (on_step n p k (record { line = l; fuse = f }) t).got) (sym (ready_free Anyhow p l u.0)) (go f (λ g. unrefused_run (counted n) (k (answer p l)) (act p l) g u.1))
   where
     go : (g : FuseState) → ((g : FuseState) → Ended (run (counted n) (k (answer p l)) (record { line = act p l; fuse = g })).got) → Ended (run (counted n) (k (pulse p (record { line = l; fuse = g })).1) (pulse p (record { line = l; fuse = g })).0).got
     go none ih = ih none
     go (after zero m) ih = subst Ended (sym (run_dead (counted n) (k (deaf p)) (map (cut_chip m) l) (cut_off m l))) tt
     go (after (suc j) m) ih = ih (after j m)
+
+-- a line without power stays so
+run_off : {A : Type 0} (n : ℕ) (p : Job A) (l : List ChipState) → AllOff l → (run n p (record { line = l; fuse = none })).rig.line ≡ l
+run_off n (ret a) l o = refl
+run_off n (step p k) l o =
+    ap (λ t. (on_step n p k (record { line = l; fuse = none }) t).rig.line) (off-refused p l o)
+    ∙ run_off (counted n) (k (answer p l)) (act p l) (subst AllOff (sym (off-act p l o)) o) ∙ off-act p l o
+
+-- whichever step is cut, Q holds of the line then, if it holds of a line without power,
+-- and so does P, if pulses and cuts of a line that is ready keep it
+module _ (D Q P : List ChipState → Type 0) (offs : (l : List ChipState) → AllOff l → Q l) (acts : (p : Pulse) (l : List ChipState) → Ready D p l → P l → P (act p l))
+    (cuts : (p : Pulse) (m : ℕ) (l : List ChipState) → Ready D p l → P l → P (map (cut_chip m) l)) where
+  abbrev Both : List ChipState → Type 0
+  Both l = Q l × P l
+
+  pub meets_run : {A : Type 0} (n : ℕ) (p : Job A) (l : List ChipState) (f : FuseState) → Meets D Q p l → P l → Both (run n p (record { line = l; fuse = f })).rig.line
+  meets_run n (ret a) l f u h = (u, h)
+  meets_run n (step p k) l f u h =
+      subst (λ t. Both (on_step n p k (record { line = l; fuse = f }) t).rig.line) (sym (ready_free D p l u.0)) (go f (λ g. meets_run (counted n) (k (answer p l)) (act p l) g u.1 (acts p l u.0 h)))
+    where
+      go : (g : FuseState) → ((g : FuseState) → Both (run (counted n) (k (answer p l)) (record { line = act p l; fuse = g })).rig.line) → Both (run (counted n) (k (pulse p (record { line = l; fuse = g })).1) (pulse p (record { line = l; fuse = g })).0).rig.line
+      go none ih = ih none
+      go (after zero m) ih =
+          subst Both (sym (run_off (counted n) (k (deaf p)) (map (cut_chip m) l) (cut_off m l))) (offs (map (cut_chip m) l) (cut_off m l), cuts p m l u.0 h)
+      go (after (suc j) m) ih = ih (after j m)
+
+pub freed_run : (D : List ChipState → Type 0) {A : Type 0} (n : ℕ) (p : Job A) (l : List ChipState) (f : FuseState) → Freed D p l → Free (run n p (record { line = l; fuse = f })).rig.line
+freed_run D n p l f u = (meets_run D Free Anyhow busy_line (λ p l h u. tt) (λ p m l h u. tt) n p l f u tt).0
 
 -- a chip that no bits can bring to program: quiet, sending, taking what 0Fh takes, or the address of F0h
 abbrev CalmAwaited : Awaited → Type 0
@@ -349,29 +412,27 @@ calm_take : (b : Bool) (l : List ChipState) → CalmAll l → CalmAll (map (take
 calm_take b [] h = tt
 calm_take b (c ∷ cs) h = ((calm b c h.0).0, calm_take b cs h.1)
 
--- slots on a calm line are never refused and leave it calm
-pub calm_send : {A : Type 0} (bs : List Bool) (k : Job A) (l : List ChipState) → CalmAll l → ((l' : List ChipState) → CalmAll l' → Unrefused k l') → Unrefused (send_bits bs k) l
-calm_send [] k l h u = u l h
-calm_send (b ∷ bs) k l h u = (calm_busy l h, calm_send bs k (map (take_bit (b && pull l)) l) (calm_take (b && pull l) l h) u)
-
-calm_read : {A : Type 0} (n : ℕ) (k : List Bool → Job A) (l : List ChipState) → CalmAll l → ((bs : List Bool) (l' : List ChipState) → CalmAll l' → Unrefused (k bs) l') → Unrefused (read_bits n k) l
-calm_read zero k l h u = u [] l h
-calm_read (suc n) k l h u =
-    (calm_busy l h, calm_read n (λ bs. k (pull l ∷ bs)) (map (take_bit (pull l)) l) (calm_take (pull l) l h) (λ bs l' h'. u (pull l ∷ bs) l' h'))
-
-pub calm_bytes : {A : Type 0} (n : ℕ) (k : List ℕ → Job A) (l : List ChipState) → CalmAll l → ((xs : List ℕ) (l' : List ChipState) → CalmAll l' → Unrefused (k xs) l') → Unrefused (read_bytes n k) l
-calm_bytes zero k l h u = u [] l h
-calm_bytes (suc n) k l h u =
-    calm_read 8 (λ bs. read_bytes n (λ xs. k (value bs ∷ xs))) l h (λ bs l' h'. calm_bytes n (λ xs. k (value bs ∷ xs)) l' h' (λ xs l'' h''. u (value bs ∷ xs) l'' h''))
+-- nor does a reset
+pub busy_reset : (l : List ChipState) → busy l ≡ false → busy (map reset_chip l) ≡ false
+busy_reset [] e = refl
+busy_reset (c ∷ cs) e = ap₂ (λ a b. a || b) (ap is_busy (reset_free c (or_parts _ _ e).0) ∙ go c.live) (busy_reset cs (or_parts _ _ e).1)
+  where
+    go : (l : Live) → is_busy (after_reset c.number c.memory l) ≡ false
+    go off = refl
+    go (under rc p) = refl
 
 -- bits that every chip hears
+module _ (D Q : List ChipState → Type 0) where
+  pub heard_to : {A : Type 0} (bs : List Bool) (k : Job A) (l : List ChipState) → HearsAll bs l → Meets D Q k (map (takes bs) l) → Meets D Q (send_bits bs k) l
+  heard_to [] k l h u = subst (Meets D Q k) (map-none l) u
+  heard_to (b ∷ bs) k l h u = (
+    hears_busy b bs l h,
+    subst (λ y. Meets D Q (send_bits bs k) (map (take_bit y) l)) (sym (ap (λ y. b && y) (hears_pull b bs l h) ∙ and-true b))
+        (heard_to bs k (map (take_bit b) l) (hears_on b bs l h) (subst (Meets D Q k) (sym (map-takes b bs l)) u)),
+  )
+
 pub heard_send : {A : Type 0} (bs : List Bool) (k : Job A) (l : List ChipState) → HearsAll bs l → Unrefused k (map (takes bs) l) → Unrefused (send_bits bs k) l
-heard_send [] k l h u = subst (Unrefused k) (map-none l) u
-heard_send (b ∷ bs) k l h u = (
-  hears_busy b bs l h,
-  subst (λ y. Unrefused (send_bits bs k) (map (take_bit y) l)) (sym (ap (λ y. b && y) (hears_pull b bs l h) ∙ and-true b))
-      (heard_send bs k (map (take_bit b) l) (hears_on b bs l h) (subst (Unrefused k) (sym (map-takes b bs l)) u)),
-)
+heard_send bs k l h u = heard_to Anyhow Anyhow bs k l h u
 
 -- a chip once an exchange has begun: without power, selected or idle
 abbrev pub Begun : ChipState → Type 0
@@ -385,16 +446,36 @@ all_begun : (x : ℕ) (l : List ChipState) → busy l ≡ false → BegunAll (ma
 all_begun x [] e = tt
 all_begun x (c ∷ cs) e = let s = select_some x c (or_parts _ _ e).0 in ((c, s.0, s.1), all_begun x cs (or_parts _ _ e).1)
 
--- an exchange opens: no pulse is refused, and then it has begun for each chip
-pub unrefused_opening : {B : Type 0} (x : ℕ) (k nope : Job B) (l : List ChipState) → busy l ≡ false
-    → ((l' : List ChipState) → Unrefused nope l') → ((l' : List ChipState) → BegunAll l' → Unrefused k l') → Unrefused (step resets (after_opening x k nope)) l
-unrefused_opening x k nope l e un uk = (
-  e,
-  pick (presence l) (λ j. Unrefused j (map reset_chip l))
-      (subst (λ j. Unrefused j (map reset_chip l)) (sym (sent-number x k))
-      (heard_send (bits_of 8 0x55 ++ bits_of 64 x) k (map reset_chip l) (opened_hear x l e) (uk (map (takes (bits_of 8 0x55 ++ bits_of 64 x)) (map reset_chip l)) (all_begun x l e))))
-      (un (map reset_chip l)),
-)
+module _ (D : List ChipState → Type 0) where
+  -- slots on a calm line are never refused and leave it calm
+  pub calm_send : {A : Type 0} (bs : List Bool) (k : Job A) (l : List ChipState) → CalmAll l → ((l' : List ChipState) → CalmAll l' → Freed D k l') → Freed D (send_bits bs k) l
+  calm_send [] k l h u = u l h
+  calm_send (b ∷ bs) k l h u = (calm_busy l h, calm_send bs k (map (take_bit (b && pull l)) l) (calm_take (b && pull l) l h) u)
+
+  calm_read : {A : Type 0} (n : ℕ) (k : List Bool → Job A) (l : List ChipState) → CalmAll l → ((bs : List Bool) (l' : List ChipState) → CalmAll l' → Freed D (k bs) l') → Freed D (read_bits n k) l
+  calm_read zero k l h u = u [] l h
+  calm_read (suc n) k l h u =
+      (calm_busy l h, calm_read n (λ bs. k (pull l ∷ bs)) (map (take_bit (pull l)) l) (calm_take (pull l) l h) (λ bs l' h'. u (pull l ∷ bs) l' h'))
+
+  pub calm_bytes : {A : Type 0} (n : ℕ) (k : List ℕ → Job A) (l : List ChipState) → CalmAll l → ((xs : List ℕ) (l' : List ChipState) → CalmAll l' → Freed D (k xs) l') → Freed D (read_bytes n k) l
+  calm_bytes zero k l h u = u [] l h
+  calm_bytes (suc n) k l h u =
+      calm_read 8 (λ bs. read_bytes n (λ xs. k (value bs ∷ xs))) l h (λ bs l' h'. calm_bytes n (λ xs. k (value bs ∷ xs)) l' h' (λ xs l'' h''. u (value bs ∷ xs) l'' h''))
+
+  -- an exchange opens: no pulse is refused, and then it has begun for each chip
+  pub opening_at : {B : Type 0} (x : ℕ) (k nope : Job B) (l : List ChipState) → busy l ≡ false
+      → ((l' : List ChipState) → busy l' ≡ false → Freed D nope l') → (BegunAll (map (takes (bits_of 8 0x55 ++ bits_of 64 x)) (map reset_chip l)) → Freed D k (map (takes (bits_of 8 0x55 ++ bits_of 64 x)) (map reset_chip l))) → Freed D (step resets (after_opening x k nope)) l
+  opening_at x k nope l e un uk = (
+    e,
+    pick (presence l) (λ j. Freed D j (map reset_chip l))
+        (subst (λ j. Freed D j (map reset_chip l)) (sym (sent-number x k))
+        (heard_to D Free (bits_of 8 0x55 ++ bits_of 64 x) k (map reset_chip l) (opened_hear x l e) (uk (all_begun x l e))))
+        (un (map reset_chip l) (busy_reset l e)),
+  )
+
+  pub freed_opening : {B : Type 0} (x : ℕ) (k nope : Job B) (l : List ChipState) → busy l ≡ false
+      → ((l' : List ChipState) → busy l' ≡ false → Freed D nope l') → ((l' : List ChipState) → BegunAll l' → Freed D k l') → Freed D (step resets (after_opening x k nope)) l
+  freed_opening x k nope l e un uk = opening_at x k nope l e un (uk (map (takes (bits_of 8 0x55 ++ bits_of 64 x)) (map reset_chip l)))
 
 -- a command that leads to sending or to the address of F0h
 abbrev pub Harmless : ℕ → Type 0

@@ -10,3 +10,4 @@ pub mod Cuts
 pub mod Counts
 pub mod Selected
 pub mod Tallies
+pub mod After

@@ -53,6 +53,11 @@ pub data Report (A : Type 0) : Type 0 where
   answered : A → ℕ → Report A  -- steps
   refused_as : ℕ → ℕ → ℕ → Report A  -- number, exchange, steps
 
+-- the steps that it is told
+abbrev pub steps_in : {A : Type 0} → Report A → ℕ
+steps_in (answered a n) = n
+steps_in (refused_as k e n) = n
+
 abbrev pub report_of : {A : Type 0} → Got (Said A) → ℕ → Report A
 report_of (done (good a)) n = answered a n
 report_of (done (bad k e)) n = refused_as k e n

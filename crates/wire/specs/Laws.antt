@@ -10,6 +10,13 @@ abbrev pub states : {A : Type 0} → Job A → RigState → List RigState
 states (ret a) r = []
 states (step p k) r = elim (refused p r.line) [ true ↦ [] | false ↦ (pulse p r).0 ∷ states (k (pulse p r).1) (pulse p r).0 ]
 
+-- chip by chip, in their sequence
+abbrev pub Along : (ChipState → ChipState → Type 0) → List ChipState → List ChipState → Type 0
+Along R [] [] = Unit {0}
+Along R [] (d ∷ ds) = ⊥
+Along R (c ∷ cs) [] = ⊥
+Along R (c ∷ cs) (d ∷ ds) = R c d × Along R cs ds
+
 -- a chip with the number has power
 abbrev pub powered_in : ℕ → List ChipState → Bool
 powered_in x [] = false

@@ -2,7 +2,7 @@ use Rattle.std.proofs.Common.{◌≡◌, ℕ, min, List, length, take, drop, rep
 use Rattle.std.proofs.lemmas.List.{take-append-drop}
 use Rattle.rig.specs.Meaning.{rig_of}
 use Rattle.survey.specs.Listing.{Later}
-use Rattle.history.proofs.Lent.{lent_told, later_longer}
+use Rattle.history.proofs.Lent.{lent_told, lent_form, later_longer}
 use Rattle.history.proofs.playing.make_survey.Goals as goal
 
 pub returns : goal.returns
@@ -13,6 +13,7 @@ returns g c =
     record {
       told = lent_told c.args.places (length (take lent (replicate {A = ℕ} 64 0))) (rig_of g.L.Line.chips c.args.rig.now) (rig_of g.L.Line.chips c.survey-outcome.new.rig)
           c.survey-outcome.result c.survey-outcome.new.places _ e c.survey-outcome.ensures.told;
+      form = lent_form c.args.places (length (take lent (replicate {A = ℕ} 64 0))) c.survey-outcome.result _ e c.survey-outcome.ensures.no_place;
       counted = c.survey-outcome.ensures.counted;
       rest = subst (λ l. Later c.survey-outcome.result l (c.survey-outcome.new.places ++ drop lent zeros)) (take-append-drop lent zeros)
           (later_longer c.survey-outcome.result (take lent zeros) c.survey-outcome.new.places (drop lent zeros) c.survey-outcome.auto.places c.survey-outcome.ensures.later);

@@ -1,4 +1,4 @@
-use Rattle.std.proofs.Common.{◌≡◌, ℕ, List, map, Err, sym, refl, ap, ◌∙◌, true≢false}
+use Rattle.std.proofs.Common.{◌≡◌, ℕ, List, map, Err, sym, refl, ap, ◌∙◌, true≢false, arith}
 use Rattle.chip.specs.Steps.{bytes_of}
 use Rattle.rig.specs.Rigs.{RigState}
 use Rattle.line.specs.Lines.{busy}
@@ -12,7 +12,8 @@ use Rattle.reading.specs.Readings.{read_call}
 use Rattle.wire.proofs.Steps.{exits}
 use Rattle.wire.proofs.Selected.{line_laws}
 use Rattle.reading.proofs.Chain.{row_refused, read_busy, read_ok, read_err, count_err}
-use Rattle.reading.proofs.Quiet.{bytes_stay, busy_unchanged}
+use Rattle.reading.proofs.Quiet.{bytes_stay, busy_unchanged, leaves_free}
+use Rattle.reading.proofs.Found.{row_is_read}
 use Rattle.reading.proofs.Truth.{reading-tells}
 use Rattle.reading.proofs.Steps.{reading_steps}
 use Rattle.reading.proofs.job.read_row.Goals as goal
@@ -28,8 +29,11 @@ returns-then-row-ne0 g c =
       counted = refl;
       kept = λ _. refl;
       bytes = refl;
+      here = λ met al b one. reading-tells (rig_of g.L.Line.chips c.args.rig.now) c.args.number.word c.args.row met c.args.number.wide al (omega arith) b one;
       tells = reading-tells;
+      found = row_is_read;
       unchanged = busy_unchanged;
+      free = leaves_free;
       steps = reading_steps;
       lines = line_laws;
     }
@@ -44,8 +48,11 @@ returns-in_err-begin_job g c =
       counted = ap (λ d. d.steps) f.0.1;
       kept = λ _. refl;
       bytes = ap (λ d. map bytes_of d.rig.line) f.0.1;
+      here = λ met al b one. reading-tells (rig_of g.L.Line.chips c.args.rig.now) c.args.number.word c.args.row met c.args.number.wide al (omega arith) b one;
       tells = reading-tells;
+      found = row_is_read;
       unchanged = busy_unchanged;
+      free = leaves_free;
       steps = reading_steps;
       lines = line_laws;
     }))
@@ -63,8 +70,11 @@ returns-in_err-found g c =
       counted = count_err c.args.number.word c.args.row f (counting g.L.Line.chips c.args.rig.now).steps (ap (λ d. busy d.rig.line) b.1 ∙ b.0) c.in_err-found.ensures;
       kept = λ _. refl;
       bytes = same (rig_of g.L.Line.chips c.args.rig.now) c.args.number.word c.args.row told;
+      here = λ met al b one. reading-tells (rig_of g.L.Line.chips c.args.rig.now) c.args.number.word c.args.row met c.args.number.wide al (omega arith) b one;
       tells = reading-tells;
+      found = row_is_read;
       unchanged = busy_unchanged;
+      free = leaves_free;
       steps = reading_steps;
       lines = line_laws;
     })
@@ -80,8 +90,11 @@ returns g c =
       counted = sym c.in_ok-found.ensures.counts;
       kept = λ e. absurd (true≢false (sym e));
       bytes = same (rig_of g.L.Line.chips c.args.rig.now) c.args.number.word c.args.row told;
+      here = λ met al b one. reading-tells (rig_of g.L.Line.chips c.args.rig.now) c.args.number.word c.args.row met c.args.number.wide al (omega arith) b one;
       tells = reading-tells;
+      found = row_is_read;
       unchanged = busy_unchanged;
+      free = leaves_free;
       steps = reading_steps;
       lines = line_laws;
     }

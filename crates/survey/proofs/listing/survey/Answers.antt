@@ -10,9 +10,9 @@ use Rattle.survey.specs.Listing.{survey_answer}
 use Rattle.rig.specs.Meaning.{counting, rig_of}
 use Rattle.wire.specs.Jobs.{Report}
 use Rattle.survey.specs.Surveys.{survey_call}
-use Rattle.survey.proofs.Called.{none-refused, survey_called, counted_after}
-use Rattle.survey.proofs.Counted.{survey_steps}
-use Rattle.survey.proofs.Surveyed.{survey_complete, survey_busy, busy_unchanged, bytes_stay}
+use Rattle.survey.proofs.Called.{none-refused, never_none, survey_called, counted_after}
+use Rattle.survey.proofs.Counted.{survey_steps, absent_steps}
+use Rattle.survey.proofs.Surveyed.{survey_complete, survey_busy, busy_unchanged, bytes_stay, survey_bound}
 use Rattle.survey.proofs.listing.survey.Goals as goal
 
 -- what the call tells of the tags' bytes
@@ -28,7 +28,10 @@ returns-then-places-eq0 g c =
       bytes = refl;
       complete = survey_complete;
       unchanged = busy_unchanged;
+      no_place = (λ _. c.if-places-eq0.true, λ _. refl);
       steps = survey_steps;
+      absent = absent_steps;
+      bound = survey_bound;
     }
 
 pub returns-in_err-begin_job : goal.returns-in_err-begin_job
@@ -43,7 +46,10 @@ returns-in_err-begin_job g c =
       bytes = ap (λ d. map bytes_of d.rig.line) f.0.1;
       complete = survey_complete;
       unchanged = busy_unchanged;
+      no_place = (λ z. absurd (never_none _ tt z), λ z. absurd (c.if-places-eq0.false z));
       steps = survey_steps;
+      absent = absent_steps;
+      bound = survey_bound;
     }))
 
 pub returns : goal.returns
@@ -60,5 +66,8 @@ returns g c =
       bytes = same (rig_of g.L.Line.chips c.args.rig.now) (length c.args.places.now) told;
       complete = survey_complete;
       unchanged = busy_unchanged;
+      no_place = (λ z. absurd (never_none c.list_numbers.result c.list_numbers.ensures.begun z), λ z. absurd (c.if-places-eq0.false z));
       steps = survey_steps;
+      absent = absent_steps;
+      bound = survey_bound;
     }
