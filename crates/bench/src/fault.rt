@@ -1,4 +1,4 @@
-use rig::fault::RigFault;
+use rig::rig_fault::RigFault;
 use std::error::Error;
 use std::fmt;
 

@@ -1,18 +1,18 @@
 use crate::runs::{Alone, Crowd, Pair};
-use crate::said::Made;
+use crate::answer_text::Made;
 use crate::session::Session;
 use line::ends::Joint;
-use number::registration::Number;
-use plug::practice::PracticePlug;
+use base::registration_number::RegistrationNumber;
+use kinds::practice_plug::PracticePlug;
 use samples::hex::Hex;
 use samples::numbers::{
     GEARBOX, SEALED, WRONG_GEARBOX, WRONG_SEALED, gearbox_number, plug_number, sealed_number,
 };
 use samples::plugs::many_plugs;
 use samples::tags::{Tag, own_addresses, tag_of};
-use sealed::tag::SealedTag;
+use kinds::sealed_tag::SealedTag;
 use std::io;
-use tag::making::make_tag;
+use line::tag_making::make_tag;
 
 pub fn gearbox(rt: &HostRuntime) -> anyhow::Result<()> {
     tell_numbers(rt)?;
@@ -31,15 +31,15 @@ pub fn gearbox(rt: &HostRuntime) -> anyhow::Result<()> {
 fn tell_numbers(rt: &HostRuntime) -> io::Result<()> {
     rt.println("Numbers, and the image of a sealed tag.")?;
     for word in [WRONG_GEARBOX, GEARBOX, WRONG_SEALED, SEALED] {
-        let made = Number::try_from(word)
+        let made = RegistrationNumber::try_from(word)
             .map(|_| ())
             .map_err(|fault| fault.refusal());
-        println!(rt; "Number {}: {}.", Hex(&word.to_le_bytes()), Made(made))?;
+        println!(rt; "RegistrationNumber {}: {}.", Hex(&word.to_le_bytes()), Made(made))?;
     }
     Ok(())
 }
 
-fn tell_image(rt: &HostRuntime, number: Number, image: &[u8]) -> io::Result<()> {
+fn tell_image(rt: &HostRuntime, number: RegistrationNumber, image: &[u8]) -> io::Result<()> {
     let length = image.len();
     let mut place: Option<Tag<SealedTag>> = None;
     let made = make_tag(&mut place, number, image).map_err(|fault| fault.refusal());

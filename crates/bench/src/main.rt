@@ -1,19 +1,19 @@
 #![tactic(auto)]
 
-mod asked;
-mod driven;
+mod answer_text;
+mod by_pulses;
+mod call_text;
 mod fault;
 mod lines;
 mod pulses;
 mod runs;
-mod said;
 mod session;
 mod texts;
 
 // Runs whole tasks and their edge cases on tags played in software, and says in plain words what was asked and answered.
 fn main(rt: HostRuntime) -> anyhow::Result<()> {
     lines::gearbox(&rt)?;
-    driven::run(&rt)?;
+    by_pulses::run(&rt)?;
     lines::edges(&rt)?;
     lines::masks(&rt)?;
     lines::pair(&rt)?;

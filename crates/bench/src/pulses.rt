@@ -1,8 +1,8 @@
 use crate::fault::PulseFault;
-use chip::command::NumberCommand;
-use line::bus::Line;
-use number::registration::Number;
-use rig::master::Rig;
+use chip::rom_command::RomCommand;
+use line::line::Line;
+use base::registration_number::RegistrationNumber;
+use rig::rig::Rig;
 use wire::bytes::{read_bytes, send_bytes};
 
 // A rig driven pulse by pulse, and the runtime that prints what was seen.
@@ -24,9 +24,9 @@ impl<L: Line> Pulses<'_, L> {
     }
 
     // A reset, 55h with the number, and the bytes of a command.
-    pub fn select(&mut self, number: Number, command: &[u8]) -> Result<(), PulseFault> {
+    pub fn select(&mut self, number: RegistrationNumber, command: &[u8]) -> Result<(), PulseFault> {
         self.begin()?;
-        self.send(&[NumberCommand::MatchNumber.byte()])?;
+        self.send(&[RomCommand::MatchRom.byte()])?;
         self.send(&number.bytes())?;
         self.send(command)
     }

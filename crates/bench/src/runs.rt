@@ -1,13 +1,13 @@
 use crate::session::Session;
 use history::calls::Call;
 use line::ends::Joint;
-use number::registration::Number;
-use rig::master::Fuse;
-use samples::many::Many;
+use base::registration_number::RegistrationNumber;
+use rig::rig::Fuse;
+use line::line_array::LineArray;
 use samples::numbers::CLUTCH;
 use samples::plugs::{MANY, Plug};
 use samples::tags::Tag;
-use sealed::tag::SealedTag;
+use kinds::sealed_tag::SealedTag;
 use std::io;
 
 type Sealed = Tag<SealedTag>;
@@ -34,14 +34,14 @@ const LOAD: [u8; 4] = [0xCC, 0x0F, 0x48, 0x00];
 const COPY: [u8; 5] = [0xCC, 0x55, 0x48, 0x00, 0x07];
 
 fn list(places: usize) -> Call {
-    Call::Survey { places }
+    Call::Search { places }
 }
 
-fn read(number: Number, row: u16) -> Call {
+fn read(number: RegistrationNumber, row: u16) -> Call {
     Call::Read { number, row }
 }
 
-fn order(number: Number, row: u16, new: [u8; 8]) -> Call {
+fn order(number: RegistrationNumber, row: u16, new: [u8; 8]) -> Call {
     Call::Order { number, row, new }
 }
 
@@ -53,7 +53,7 @@ fn fuse(count: u32, mask: u64) -> Call {
 #[derive(Drop)]
 pub struct Alone<'a> {
     pub session: Session<'a, Sealed>,
-    pub number: Number,
+    pub number: RegistrationNumber,
 }
 
 impl Alone<'_> {
@@ -144,10 +144,10 @@ impl Alone<'_> {
     }
 }
 
-// Practice plugs of one family, one more than a survey lists.
+// Practice plugs of one family, one more than a search lists.
 #[derive(Drop)]
 pub struct Crowd<'a> {
-    pub session: Session<'a, Many<Plug, MANY>>,
+    pub session: Session<'a, LineArray<Plug, MANY>>,
 }
 
 impl Crowd<'_> {
@@ -162,9 +162,9 @@ impl Crowd<'_> {
 #[derive(Drop)]
 pub struct Pair<'a> {
     pub session: Session<'a, Joint<Plug, Sealed>>,
-    pub plug: Number,
-    pub sealed: Number,
-    pub absent: Number,
+    pub plug: RegistrationNumber,
+    pub sealed: RegistrationNumber,
+    pub absent: RegistrationNumber,
 }
 
 impl Pair<'_> {
@@ -238,7 +238,7 @@ impl Pair<'_> {
     // The scratchpad still holds the plug's last row when it is copied once more.
     fn copy_again(&mut self) -> io::Result<()> {
         self.session.rt.println(
-            "The plug takes an order, then slots with CCh, 55h, 08h, 00h, 87h; it programs again.",
+            "The plug takes an order, then slot_pulse with CCh, 55h, 08h, 00h, 87h; it programs again.",
         )?;
         self.session
             .ask(&[Call::PowerUp, order(self.plug, 0x08, NEW), Call::Reset])?;

@@ -1,9 +1,9 @@
-use crate::asked::Asked;
-use crate::said::Said;
+use crate::call_text::Asked;
+use crate::answer_text::Said;
 use history::calls::{Answer, Call};
 use history::playing::play;
-use line::bus::Line;
-use rig::master::Rig;
+use line::line::Line;
+use rig::rig::Rig;
 use std::{array, io};
 
 // A rig, and the runtime that prints what was asked of it and answered.

@@ -1,8 +1,8 @@
 #[cfg(test)]
 mod tests {
     use crate::fault::PulseFault;
-    use crate::said::Made;
-    use refusals::refusal::Refusal;
+    use crate::answer_text::Made;
+    use base::refusal::Refusal;
     use std::test::Fail;
 
     #[test]

@@ -1,33 +1,33 @@
 -- What each event leaves of a chip's number and its bytes, and what a chip without power does.
 use Rattle.std.proofs.Common.{◌≡◌, ℕ, Bool, true, false, List, [], ◌∷◌, ◌++◌, sym, refl, ap, ◌∙◌, arith}
-use Rattle.bits.specs.Bits.{value, same, full, front_bit, rest_bits, spent}
-use Rattle.bits.proofs.Choice.{pick}
-use Rattle.kind.specs.Kinds.{whole_row}
-use Rattle.memory.specs.Memories.{Memory, Protocol, protocols, bytes_in, kind_in, burn_memory, dwell_memory}
+use Rattle.base.specs.Bits.{value, same, full, front_bit, rest_bits, none_left}
+use Rattle.base.proofs.Choice.{pick}
+use Rattle.kinds.specs.Kinds.{whole_row}
+use Rattle.memory.specs.Memories.{Memory, Protocol, protocols, bytes_in, kind_in, cut_memory, dwell_memory}
 use Rattle.memory.proofs.Keeps.{begin_bytes, take_bytes, wake_bytes, dwell_bytes, wake_same}
-use Rattle.chip.specs.Chips.{ChipOver, Live, off, on, Phase, idle, command, sending, matching, seeking, itself, opposite, choice, selected, Command, read_number, match_number, seek_number, skip_number, resume, unknown, command_of, obey, agreed, select, take_in, take_live, powered}
-use Rattle.chip.specs.Steps.{ChipState, made_chip, bytes_of, has_power, is_busy, pull_of, take_bit, reset_chip, dwell_chip, cut_chip, power_chip}
+use Rattle.chip.specs.Chips.{ChipOver, Live, off, on, Phase, idle, command, sending, matching, searching, rom_bit, complement, direction, selected, Command, read_rom, match_rom, search_rom, skip_rom, resume, unknown, command_of, run_command, after_agreed, select, take_in, take_live, powered}
+use Rattle.chip.specs.ChipStates.{ChipState, made_chip, bytes_of, has_power, is_busy, pull_of, take_bit, reset_chip, dwell_chip, cut_chip, power_chip}
 
 module _ {S : Type 0} (P : Protocol S) where
   abbrev SameNumber : ChipOver S → ChipOver S → Type 0
   SameNumber c d = d.number ≡ c.number
 
-  obey-number : (o : Command) (rc : Bool) (c : ChipOver S) → (obey P o rc c).number ≡ c.number
-  obey-number read_number rc c = refl
-  obey-number match_number rc c = refl
-  obey-number seek_number rc c = refl
-  obey-number skip_number rc c = refl
-  obey-number resume rc c = pick rc (SameNumber c) refl refl
-  obey-number unknown rc c = refl
+  run_command-number : (o : Command) (rc : Bool) (c : ChipOver S) → (run_command P o rc c).number ≡ c.number
+  run_command-number read_rom rc c = refl
+  run_command-number match_rom rc c = refl
+  run_command-number search_rom rc c = refl
+  run_command-number skip_rom rc c = refl
+  run_command-number resume rc c = pick rc (SameNumber c) refl refl
+  run_command-number unknown rc c = refl
 
   take-number : (p : Phase) (rc b : Bool) (c : ChipOver S) → (take_in P p rc b c).number ≡ c.number
   take-number idle rc b c = refl
-  take-number (command bs) rc b c = pick (full (bs ++ (b ∷ []))) (SameNumber c) (obey-number (command_of (value (bs ++ (b ∷ [])))) rc c) refl
-  take-number (sending bs) rc b c = pick (spent (rest_bits bs)) (SameNumber c) refl refl
-  take-number (matching bs) rc b c = pick (same (front_bit bs) b) (SameNumber c) (pick (spent (rest_bits bs)) (SameNumber c) refl refl) refl
-  take-number (seeking itself bs) rc b c = refl
-  take-number (seeking opposite bs) rc b c = refl
-  take-number (seeking choice bs) rc b c = pick (same (front_bit bs) b) (SameNumber c) (pick (spent (rest_bits bs)) (SameNumber c) refl refl) refl
+  take-number (command bs) rc b c = pick (full (bs ++ (b ∷ []))) (SameNumber c) (run_command-number (command_of (value (bs ++ (b ∷ [])))) rc c) refl
+  take-number (sending bs) rc b c = pick (none_left (rest_bits bs)) (SameNumber c) refl refl
+  take-number (matching bs) rc b c = pick (same (front_bit bs) b) (SameNumber c) (pick (none_left (rest_bits bs)) (SameNumber c) refl refl) refl
+  take-number (searching rom_bit bs) rc b c = refl
+  take-number (searching complement bs) rc b c = refl
+  take-number (searching direction bs) rc b c = pick (same (front_bit bs) b) (SameNumber c) (pick (none_left (rest_bits bs)) (SameNumber c) refl refl) refl
   take-number selected rc b c = refl
 
 -- no taken bit changes a number
@@ -45,25 +45,25 @@ SameBytes c d = bytes_of d ≡ bytes_of c
 select_bytes : (c : ChipState) (rc : Bool) → bytes_of (select protocols c rc) ≡ bytes_of c
 select_bytes c rc = begin_bytes c.memory
 
-obey_bytes : (o : Command) (rc : Bool) (c : ChipState) → bytes_of (obey protocols o rc c) ≡ bytes_of c
-obey_bytes read_number rc c = refl
-obey_bytes match_number rc c = refl
-obey_bytes seek_number rc c = refl
-obey_bytes skip_number rc c = select_bytes c false
+obey_bytes : (o : Command) (rc : Bool) (c : ChipState) → bytes_of (run_command protocols o rc c) ≡ bytes_of c
+obey_bytes read_rom rc c = refl
+obey_bytes match_rom rc c = refl
+obey_bytes search_rom rc c = refl
+obey_bytes skip_rom rc c = select_bytes c false
 obey_bytes resume rc c = pick rc (SameBytes c) (select_bytes c true) refl
 obey_bytes unknown rc c = refl
 
-agreed_bytes : (bs : List Bool) (p : Phase) (rc : Bool) (c : ChipState) → bytes_of (agreed protocols bs p rc c) ≡ bytes_of c
-agreed_bytes bs p rc c = pick (spent bs) (SameBytes c) (select_bytes c true) refl
+agreed_bytes : (bs : List Bool) (p : Phase) (rc : Bool) (c : ChipState) → bytes_of (after_agreed protocols bs p rc c) ≡ bytes_of c
+agreed_bytes bs p rc c = pick (none_left bs) (SameBytes c) (select_bytes c true) refl
 
 take_in_bytes : (p : Phase) (rc b : Bool) (c : ChipState) → bytes_of (take_in protocols p rc b c) ≡ bytes_of c
 take_in_bytes idle rc b c = refl
 take_in_bytes (command bs) rc b c = pick (full (bs ++ (b ∷ []))) (SameBytes c) (obey_bytes (command_of (value (bs ++ (b ∷ [])))) rc c) refl
-take_in_bytes (sending bs) rc b c = pick (spent (rest_bits bs)) (SameBytes c) (select_bytes c rc) refl
+take_in_bytes (sending bs) rc b c = pick (none_left (rest_bits bs)) (SameBytes c) (select_bytes c rc) refl
 take_in_bytes (matching bs) rc b c = pick (same (front_bit bs) b) (SameBytes c) (agreed_bytes (rest_bits bs) (matching (rest_bits bs)) rc c) refl
-take_in_bytes (seeking itself bs) rc b c = refl
-take_in_bytes (seeking opposite bs) rc b c = refl
-take_in_bytes (seeking choice bs) rc b c = pick (same (front_bit bs) b) (SameBytes c) (agreed_bytes (rest_bits bs) (seeking itself (rest_bits bs)) rc c) refl
+take_in_bytes (searching rom_bit bs) rc b c = refl
+take_in_bytes (searching complement bs) rc b c = refl
+take_in_bytes (searching direction bs) rc b c = pick (same (front_bit bs) b) (SameBytes c) (agreed_bytes (rest_bits bs) (searching rom_bit (rest_bits bs)) rc c) refl
 take_in_bytes selected rc b c = take_bytes c.memory b
 
 pub bytes_taken : (b : Bool) (c : ChipState) → bytes_of (take_bit b c) ≡ bytes_of c
@@ -84,15 +84,15 @@ pub bytes_dwell_idle : (c : ChipState) → is_busy c ≡ false → bytes_of (dwe
 bytes_dwell_idle c h = ap (λ b. bytes_in (elim b as (λ _. Memory) [ true ↦ dwell_memory c.memory | false ↦ c.memory ])) h
 
 pub bytes_cut_idle : (mask : ℕ) (c : ChipState) → is_busy c ≡ false → bytes_of (cut_chip mask c) ≡ bytes_of c
-bytes_cut_idle mask c h = ap (λ b. bytes_in (elim b as (λ _. Memory) [ true ↦ burn_memory c.memory mask | false ↦ c.memory ])) h
+bytes_cut_idle mask c h = ap (λ b. bytes_in (elim b as (λ _. Memory) [ true ↦ cut_memory c.memory mask | false ↦ c.memory ])) h
 
 -- one that is programming gets its row through a mask
-pub bytes_dwell_busy : (c : ChipState) → is_busy c ≡ true → bytes_of (dwell_chip c) ≡ bytes_in (burn_memory c.memory whole_row)
+pub bytes_dwell_busy : (c : ChipState) → is_busy c ≡ true → bytes_of (dwell_chip c) ≡ bytes_in (cut_memory c.memory whole_row)
 bytes_dwell_busy c h =
     ap (λ b. bytes_in (elim b as (λ _. Memory) [ true ↦ dwell_memory c.memory | false ↦ c.memory ])) h ∙ dwell_bytes c.memory
 
-pub bytes_cut_busy : (mask : ℕ) (c : ChipState) → is_busy c ≡ true → bytes_of (cut_chip mask c) ≡ bytes_in (burn_memory c.memory mask)
-bytes_cut_busy mask c h = ap (λ b. bytes_in (elim b as (λ _. Memory) [ true ↦ burn_memory c.memory mask | false ↦ c.memory ])) h
+pub bytes_cut_busy : (mask : ℕ) (c : ChipState) → is_busy c ≡ true → bytes_of (cut_chip mask c) ≡ bytes_in (cut_memory c.memory mask)
+bytes_cut_busy mask c h = ap (λ b. bytes_in (elim b as (λ _. Memory) [ true ↦ cut_memory c.memory mask | false ↦ c.memory ])) h
 
 -- a chip without power pulls nothing, and changes by power-up only
 abbrev pub Off : ChipState → Type 0

@@ -1,4 +1,4 @@
 pub mod Keeps
-pub mod Sound
-pub mod Select
 pub mod SameKind
+pub mod Select
+pub mod Sound

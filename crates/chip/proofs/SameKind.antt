@@ -1,9 +1,9 @@
 -- No event changes a chip's kind.
 use Rattle.std.proofs.Common.{◌≡◌, ℕ, Bool, refl, ◌∙◌}
-use Rattle.bits.proofs.Choice.{pick}
+use Rattle.base.proofs.Choice.{pick}
 use Rattle.memory.specs.Memories.{Memory, kind_in}
 use Rattle.memory.proofs.Keeps.{begin_kind, take_kind, wake_kind, dwell_kind, burn_kind}
-use Rattle.chip.specs.Steps.{ChipState, has_power, is_busy, take_bit, dwell_chip, cut_chip, power_chip}
+use Rattle.chip.specs.ChipStates.{ChipState, has_power, is_busy, take_bit, dwell_chip, cut_chip, power_chip}
 use Rattle.chip.proofs.Sound.{taken_keeps}
 
 module _ (c : ChipState) where

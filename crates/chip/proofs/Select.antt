@@ -1,11 +1,11 @@
 -- Reset and 55h with a number: which chips are selected, and that all of them hear every bit.
 use Rattle.std.proofs.Common.{◌≡◌, ℕ, ◌^◌, ◌<◌, Bool, true, false, eqb, ◌≢◌, List, [], ◌∷◌, ◌++◌, length, sym, refl, ap, ◌∙◌, subst, arith, eq-eqb}
 use Rattle.std.proofs.lemmas.Bool.{eqb-true, true≢false}
-use Rattle.bits.specs.Bits.{bits_of, value, same}
-use Rattle.bits.specs.Widths.{value_bits}
-use Rattle.memory.specs.Memories.{Memory, protocols, begin_memory}
-use Rattle.chip.specs.Chips.{Live, Phase, off, on, idle, command, matching, selected, agreed, reset_live}
-use Rattle.chip.specs.Steps.{ChipState, is_busy, pull_of, take_bit, reset_chip, takes, opened_as, opened_by}
+use Rattle.base.specs.Bits.{bits_of, value, same}
+use Rattle.base.specs.Widths.{value_bits}
+use Rattle.memory.specs.Memories.{Memory, protocols, select_memory}
+use Rattle.chip.specs.Chips.{Live, Phase, off, on, idle, command, matching, selected, after_agreed, reset_live}
+use Rattle.chip.specs.ChipStates.{ChipState, is_busy, pull_of, take_bit, reset_chip, takes, opened_as, opened_by}
 
 -- pulls nothing and is not programming before each of these bits
 abbrev pub Hears : List Bool → ChipState → Type 0
@@ -30,11 +30,11 @@ module _ (x : ℕ) (m : Memory) where
 
   -- in the memory phase
   abbrev pub listening : ChipState
-  listening = record { number = x; live = on true selected; memory = begin_memory m }
+  listening = record { number = x; live = on true selected; memory = select_memory m }
 
   -- bits of the number still to be compared
   abbrev matched : List Bool → Bool → ChipState
-  matched zs rc = agreed protocols zs (matching zs) rc (chip off)
+  matched zs rc = after_agreed protocols zs (matching zs) rc (chip off)
 
   pub takes-idle : (bs : List Bool) (rc : Bool) → takes bs (chip (on rc idle)) ≡ chip (on rc idle)
   takes-idle [] rc = refl

@@ -1,37 +1,37 @@
 -- A chip that has met nothing but a line's calls since its making lies within its bounds.
 use Rattle.std.proofs.Common.{ℕ, ◌^◌, ◌<◌, Bool, List, [], ◌∷◌, ◌++◌, sym, subst}
-use Rattle.bits.specs.Bits.{value, same, full, front_bit, rest_bits, spent}
-use Rattle.number.specs.Numbers.{Checked}
-use Rattle.memory.specs.Memories.{Memory, protocols, begin_memory, take_memory}
+use Rattle.base.specs.Bits.{value, same, full, front_bit, rest_bits, none_left}
+use Rattle.base.specs.RegistrationNumbers.{IsChecked}
+use Rattle.memory.specs.Memories.{Memory, protocols, select_memory, take_memory}
 use Rattle.memory.proofs.Sound.{SoundMemory, taken_sound, begun_sound, woken_sound, dwelt_sound, burnt_sound, made_sound}
-use Rattle.chip.specs.Chips.{Live, off, on, Phase, idle, command, sending, matching, seeking, itself, opposite, choice, selected, Command, read_number, match_number, seek_number, skip_number, resume, unknown, command_of, obey, take_in, take_live}
-use Rattle.chip.specs.Steps.{ChipState, has_power, is_busy, take_bit, reset_chip, dwell_chip, cut_chip, power_chip}
+use Rattle.chip.specs.Chips.{Live, off, on, Phase, idle, command, sending, matching, searching, rom_bit, complement, direction, selected, Command, read_rom, match_rom, search_rom, skip_rom, resume, unknown, command_of, run_command, take_in, take_live}
+use Rattle.chip.specs.ChipStates.{ChipState, has_power, is_busy, take_bit, reset_chip, dwell_chip, cut_chip, power_chip}
 use Rattle.chip.specs.Histories.{effects, Met, MetAll}
 use Rattle.chip.specs.Events.{Event, reset_came, bit_came, dwell_came, power_failed, power_came, effect}
-use Rattle.bits.proofs.Choice.{pick}
+use Rattle.base.proofs.Choice.{pick}
 use Rattle.chip.proofs.Keeps.{number-taken}
 
 -- what the memory phase's beginning and its bits keep, every taken bit keeps
-module _ (Q : Memory → Type 0) (begun : (m : Memory) → Q m → Q (begin_memory m)) (took : (m : Memory) (b : Bool) → Q m → Q (take_memory m b)) where
+module _ (Q : Memory → Type 0) (begun : (m : Memory) → Q m → Q (select_memory m)) (took : (m : Memory) (b : Bool) → Q m → Q (take_memory m b)) where
   abbrev Of : ChipState → Type 0
   Of d = Q d.memory
 
-  obey_keeps : (o : Command) (rc : Bool) (c : ChipState) → Q c.memory → Q (obey protocols o rc c).memory
-  obey_keeps read_number rc c q = q
-  obey_keeps match_number rc c q = q
-  obey_keeps seek_number rc c q = q
-  obey_keeps skip_number rc c q = begun c.memory q
+  obey_keeps : (o : Command) (rc : Bool) (c : ChipState) → Q c.memory → Q (run_command protocols o rc c).memory
+  obey_keeps read_rom rc c q = q
+  obey_keeps match_rom rc c q = q
+  obey_keeps search_rom rc c q = q
+  obey_keeps skip_rom rc c q = begun c.memory q
   obey_keeps resume rc c q = pick rc Of (begun c.memory q) q
   obey_keeps unknown rc c q = q
 
   in_keeps : (p : Phase) (rc b : Bool) (c : ChipState) → Q c.memory → Q (take_in protocols p rc b c).memory
   in_keeps idle rc b c q = q
   in_keeps (command bs) rc b c q = pick (full (bs ++ (b ∷ []))) Of (obey_keeps (command_of (value (bs ++ (b ∷ [])))) rc c q) q
-  in_keeps (sending bs) rc b c q = pick (spent (rest_bits bs)) Of (begun c.memory q) q
-  in_keeps (matching bs) rc b c q = pick (same (front_bit bs) b) Of (pick (spent (rest_bits bs)) Of (begun c.memory q) q) q
-  in_keeps (seeking itself bs) rc b c q = q
-  in_keeps (seeking opposite bs) rc b c q = q
-  in_keeps (seeking choice bs) rc b c q = pick (same (front_bit bs) b) Of (pick (spent (rest_bits bs)) Of (begun c.memory q) q) q
+  in_keeps (sending bs) rc b c q = pick (none_left (rest_bits bs)) Of (begun c.memory q) q
+  in_keeps (matching bs) rc b c q = pick (same (front_bit bs) b) Of (pick (none_left (rest_bits bs)) Of (begun c.memory q) q) q
+  in_keeps (searching rom_bit bs) rc b c q = q
+  in_keeps (searching complement bs) rc b c q = q
+  in_keeps (searching direction bs) rc b c q = pick (same (front_bit bs) b) Of (pick (none_left (rest_bits bs)) Of (begun c.memory q) q) q
   in_keeps selected rc b c q = took c.memory b q
 
   pub taken_keeps : (b : Bool) (c : ChipState) → Q c.memory → Q (take_bit b c).memory
@@ -43,7 +43,7 @@ module _ (Q : Memory → Type 0) (begun : (m : Memory) → Q m → Q (begin_memo
 
 pub record Sound (c : ChipState) : Type 0 where
   pub wide : c.number < 2 ^ 64
-  pub checked : Checked c.number
+  pub checked : IsChecked c.number
   pub memory : SoundMemory c.memory
 
 abbrev pub SoundAll : List ChipState → Type 0
@@ -53,7 +53,7 @@ SoundAll (c ∷ cs) = Sound c × SoundAll cs
 pub sound_taken : (b : Bool) (c : ChipState) → Sound c → Sound (take_bit b c)
 sound_taken b c s = record {
   wide = subst (λ x. x < 2 ^ 64) (sym (number-taken b c)) s.wide;
-  checked = subst Checked (sym (number-taken b c)) s.checked;
+  checked = subst IsChecked (sym (number-taken b c)) s.checked;
   memory = taken_keeps SoundMemory begun_sound taken_sound b c s.memory;
 }
 

@@ -1,20 +1,20 @@
 -- A chip and the commands on its number, whatever the protocol of the memory behind it.
 use Rattle.std.specs.Prelude.{ℕ, Bool, true, false, cond, not, ◌&&◌, List, [], ◌∷◌, ◌++◌, ◌==◌}
-use Rattle.bits.specs.Bits.{bits_of, value, same, full, front_bit, rest_bits, spent}
+use Rattle.base.specs.Bits.{bits_of, value, same, full, front_bit, rest_bits, none_left}
 use Rattle.memory.specs.Memories.{Protocol}
 
 -- where a chip stands within a bit of its number: it sends the bit, sends its opposite, takes a choice
-pub data Third : Type 0 where
-  itself : Third
-  opposite : Third
-  choice : Third
+pub data SearchPart : Type 0 where
+  rom_bit : SearchPart
+  complement : SearchPart
+  direction : SearchPart
 
 pub data Phase : Type 0 where
   idle : Phase
   command : List Bool → Phase  -- the bits of a command that have come
   sending : List Bool → Phase  -- the bits of the number still to be sent
   matching : List Bool → Phase  -- those still to be compared
-  seeking : Third → List Bool → Phase  -- those still to be sent and compared
+  searching : SearchPart → List Bool → Phase  -- those still to be sent and compared
   selected : Phase  -- the memory phase
 
 pub data Live : Type 0 where
@@ -27,16 +27,16 @@ pub record ChipOver (S : Type 0) : Type 0 where
   pub memory : S
 
 pub data Command : Type 0 where
-  read_number : Command
-  match_number : Command
-  seek_number : Command
-  skip_number : Command
+  read_rom : Command
+  match_rom : Command
+  search_rom : Command
+  skip_rom : Command
   resume : Command
   unknown : Command
 
 abbrev pub command_of : ℕ → Command
 command_of b =
-    cond (b == 0x33) read_number (cond (b == 0x55) match_number (cond (b == 0xF0) seek_number (cond (b == 0xCC) skip_number (cond (b == 0xA5) resume unknown))))
+    cond (b == 0x33) read_rom (cond (b == 0x55) match_rom (cond (b == 0xF0) search_rom (cond (b == 0xCC) skip_rom (cond (b == 0xA5) resume unknown))))
 
 abbrev pub powered : Live → Bool
 powered off = false
@@ -48,7 +48,7 @@ is_selected (on rc idle) = false
 is_selected (on rc (command bs)) = false
 is_selected (on rc (sending bs)) = false
 is_selected (on rc (matching bs)) = false
-is_selected (on rc (seeking t bs)) = false
+is_selected (on rc (searching t bs)) = false
 is_selected (on rc selected) = true
 
 module _ {S : Type 0} (P : Protocol S) where
@@ -58,38 +58,38 @@ module _ {S : Type 0} (P : Protocol S) where
 
   -- the memory phase begins
   abbrev pub select : ChipOver S → Bool → ChipOver S
-  select c rc = record { number = c.number; live = on rc selected; memory = P.begin c.memory }
+  select c rc = record { number = c.number; live = on rc selected; memory = P.select c.memory }
 
-  abbrev pub obey : Command → Bool → ChipOver S → ChipOver S
-  obey read_number rc c = at c (on false (sending (bits_of 64 c.number)))
-  obey match_number rc c = at c (on false (matching (bits_of 64 c.number)))
-  obey seek_number rc c = at c (on false (seeking itself (bits_of 64 c.number)))
-  obey skip_number rc c = select c false
-  obey resume rc c = elim rc [ true ↦ select c true | false ↦ at c (on false idle) ]
-  obey unknown rc c = at c (on rc idle)
+  abbrev pub run_command : Command → Bool → ChipOver S → ChipOver S
+  run_command read_rom rc c = at c (on false (sending (bits_of 64 c.number)))
+  run_command match_rom rc c = at c (on false (matching (bits_of 64 c.number)))
+  run_command search_rom rc c = at c (on false (searching rom_bit (bits_of 64 c.number)))
+  run_command skip_rom rc c = select c false
+  run_command resume rc c = elim rc [ true ↦ select c true | false ↦ at c (on false idle) ]
+  run_command unknown rc c = at c (on rc idle)
 
   -- eight taken bits are a command
-  abbrev pub came : List Bool → Bool → ChipOver S → ChipOver S
-  came bs rc c = elim (full bs) [ true ↦ obey (command_of (value bs)) rc c | false ↦ at c (on rc (command bs)) ]
+  abbrev pub collect_bit : List Bool → Bool → ChipOver S → ChipOver S
+  collect_bit bs rc c = elim (full bs) [ true ↦ run_command (command_of (value bs)) rc c | false ↦ at c (on rc (command bs)) ]
 
   -- bits of the number are left to send; else the memory phase begins
-  abbrev pub sent : List Bool → Bool → ChipOver S → ChipOver S
-  sent bs rc c = elim (spent bs) [ true ↦ select c rc | false ↦ at c (on rc (sending bs)) ]
+  abbrev pub after_sent : List Bool → Bool → ChipOver S → ChipOver S
+  after_sent bs rc c = elim (none_left bs) [ true ↦ select c rc | false ↦ at c (on rc (sending bs)) ]
 
   -- a compared bit agreed, and goes on to the next; the last sets RC and begins the memory phase
-  abbrev pub agreed : List Bool → Phase → Bool → ChipOver S → ChipOver S
-  agreed bs next rc c = elim (spent bs) [ true ↦ select c true | false ↦ at c (on rc next) ]
+  abbrev pub after_agreed : List Bool → Phase → Bool → ChipOver S → ChipOver S
+  after_agreed bs next rc c = elim (none_left bs) [ true ↦ select c true | false ↦ at c (on rc next) ]
 
   abbrev pub take_in : Phase → Bool → Bool → ChipOver S → ChipOver S
   take_in idle rc b c = at c (on rc idle)
-  take_in (command bs) rc b c = came (bs ++ (b ∷ [])) rc c
-  take_in (sending bs) rc b c = sent (rest_bits bs) rc c
+  take_in (command bs) rc b c = collect_bit (bs ++ (b ∷ [])) rc c
+  take_in (sending bs) rc b c = after_sent (rest_bits bs) rc c
   take_in (matching bs) rc b c =
-      elim (same (front_bit bs) b) [ true ↦ agreed (rest_bits bs) (matching (rest_bits bs)) rc c | false ↦ at c (on rc idle) ]
-  take_in (seeking itself bs) rc b c = at c (on rc (seeking opposite bs))
-  take_in (seeking opposite bs) rc b c = at c (on rc (seeking choice bs))
-  take_in (seeking choice bs) rc b c =
-      elim (same (front_bit bs) b) [ true ↦ agreed (rest_bits bs) (seeking itself (rest_bits bs)) rc c | false ↦ at c (on rc idle) ]
+      elim (same (front_bit bs) b) [ true ↦ after_agreed (rest_bits bs) (matching (rest_bits bs)) rc c | false ↦ at c (on rc idle) ]
+  take_in (searching rom_bit bs) rc b c = at c (on rc (searching complement bs))
+  take_in (searching complement bs) rc b c = at c (on rc (searching direction bs))
+  take_in (searching direction bs) rc b c =
+      elim (same (front_bit bs) b) [ true ↦ after_agreed (rest_bits bs) (searching rom_bit (rest_bits bs)) rc c | false ↦ at c (on rc idle) ]
   take_in selected rc b c = record { number = c.number; live = on rc selected; memory = P.take c.memory b }
 
   abbrev pub take_live : Live → Bool → ChipOver S → ChipOver S
@@ -108,9 +108,9 @@ module _ {S : Type 0} (P : Protocol S) where
   pull_in (command bs) m = true
   pull_in (sending bs) m = front_bit bs
   pull_in (matching bs) m = true
-  pull_in (seeking itself bs) m = front_bit bs
-  pull_in (seeking opposite bs) m = not (front_bit bs)
-  pull_in (seeking choice bs) m = true
+  pull_in (searching rom_bit bs) m = front_bit bs
+  pull_in (searching complement bs) m = not (front_bit bs)
+  pull_in (searching direction bs) m = true
   pull_in selected m = P.pull m
 
   abbrev pub pull_live : Live → S → Bool
@@ -131,11 +131,11 @@ module _ {S : Type 0} (P : Protocol S) where
   dwelt c = record { number = c.number; live = c.live; memory = elim (busy c) [ true ↦ P.dwell c.memory | false ↦ c.memory ] }
 
   abbrev pub cut : ℕ → ChipOver S → ChipOver S
-  cut mask c = record { number = c.number; live = off; memory = elim (busy c) [ true ↦ P.burn c.memory mask | false ↦ c.memory ] }
+  cut mask c = record { number = c.number; live = off; memory = elim (busy c) [ true ↦ P.cut c.memory mask | false ↦ c.memory ] }
 
-  abbrev pub wake_live : Live → Live
-  wake_live off = on false idle
-  wake_live (on rc p) = on rc p
+  abbrev pub live_powered_up : Live → Live
+  live_powered_up off = on false idle
+  live_powered_up (on rc p) = on rc p
 
   abbrev pub powered_up : ChipOver S → ChipOver S
-  powered_up c = record { number = c.number; live = wake_live c.live; memory = elim (powered c.live) [ true ↦ c.memory | false ↦ P.wake c.memory ] }
+  powered_up c = record { number = c.number; live = live_powered_up c.live; memory = elim (powered c.live) [ true ↦ c.memory | false ↦ P.power_up c.memory ] }

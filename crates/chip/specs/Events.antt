@@ -1,6 +1,6 @@
 -- What may happen to the chips of a line. Resets, bits and dwells are steps of a master; that power fails or comes is none.
 use Rattle.std.specs.Prelude.{ℕ, Bool}
-use Rattle.chip.specs.Steps.{ChipState, take_bit, reset_chip, dwell_chip, cut_chip, power_chip}
+use Rattle.chip.specs.ChipStates.{ChipState, take_bit, reset_chip, dwell_chip, cut_chip, power_chip}
 
 pub data Event : Type 0 where
   reset_came : Event

@@ -1,9 +1,9 @@
 -- What a chip may have met since its making: nothing but the events of a line.
 use Rattle.std.specs.Prelude.{◌≡◌, ◌^◌, ◌<◌, List, [], ◌∷◌}
-use Rattle.number.specs.Numbers.{Checked}
+use Rattle.base.specs.RegistrationNumbers.{IsChecked}
 use Rattle.memory.specs.Memories.{FreshMemory}
 use Rattle.chip.specs.Chips.{off}
-use Rattle.chip.specs.Steps.{ChipState}
+use Rattle.chip.specs.ChipStates.{ChipState}
 use Rattle.chip.specs.Events.{Event, effect}
 
 -- events one after another
@@ -14,7 +14,7 @@ effects (e ∷ es) c = effects es (effect e c)
 -- a chip as it is made: any registration number, any lawful kind, any image, no power
 pub record Fresh (c : ChipState) : Type 0 where
   pub wide : c.number < 2 ^ 64
-  pub checked : Checked c.number
+  pub checked : IsChecked c.number
   pub unpowered : c.live ≡ off
   pub memory : FreshMemory c.memory
 

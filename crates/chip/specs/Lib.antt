@@ -1,6 +1,6 @@
+pub mod ChipModel
+pub mod ChipStates
 pub mod Chips
-pub mod Steps
-pub mod Histories
-pub mod Meaning
-pub mod Commands
 pub mod Events
+pub mod Histories
+pub mod RomCommands

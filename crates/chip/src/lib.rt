@@ -1,6 +1,6 @@
 // A chip: its power, and the commands on its number.
 #![tactic(auto)]
 
-pub mod command;
-pub mod device;
-pub mod phase;
+pub mod chip;
+pub mod rom_command;
+pub mod rom_phase;

@@ -1,7 +1,7 @@
 -- The runs at the edges of the rules, by computation.
 use Rattle.std.proofs.Common.{refl}
-use Rattle.sums.specs.Sums.{crc8}
-use Rattle.writing.specs.Differences.{first_difference}
+use Rattle.base.specs.Crc.{crc8}
+use Rattle.order.specs.Differences.{first_difference}
 use Rattle.history.specs.Edges.{EdgeRuns}
 
 pub edge_runs : EdgeRuns

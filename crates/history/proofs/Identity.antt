@@ -2,16 +2,16 @@
 use Rattle.std.proofs.Common.{◌≡◌, ℕ, suc, ◌*◌, ◌^◌, ◌<◌, Bool, true, false, ◌&&◌, ◌||◌, List, [], ◌∷◌, ◌++◌, map, length, replicate, sym, refl, ap, ◌∙◌, subst, ap₂, arith}
 use mathlib.Core.Bool.{and-true}
 use Rattle.std.proofs.lemmas.List.{append_cancel_left, append_cancel_right}
-use Rattle.bits.specs.Bits.{bits_of, value, bits_all}
-use Rattle.bits.proofs.Queues.{length_all}
-use Rattle.bits.specs.Widths.{value_bits}
-use Rattle.kind.specs.Kinds.{Rules, Bytes}
+use Rattle.base.specs.Bits.{bits_of, value, bits_all}
+use Rattle.base.proofs.Queues.{length_all}
+use Rattle.base.specs.Widths.{value_bits}
+use Rattle.kinds.specs.Kinds.{Rules, Bytes}
 use Rattle.memory.specs.Scratchpads.{Work, on, fresh, await, command, sending, idle}
-use Rattle.memory.specs.Memories.{Memory, padded, protocols, bytes_in, kind_in, wake_memory}
+use Rattle.memory.specs.Memories.{Memory, padded, protocols, bytes_in, kind_in, power_up_memory}
 use Rattle.memory.proofs.Sound.{SoundMemory}
-use Rattle.chip.specs.Chips.{Live, off, selected, sent}
+use Rattle.chip.specs.Chips.{Live, off, selected, after_sent}
 use Rattle.chip.specs.Chips.{on as under, idle as resting, command as commanded}
-use Rattle.chip.specs.Steps.{ChipState, bytes_of, is_busy, pull_of, take_bit, power_chip, takes}
+use Rattle.chip.specs.ChipStates.{ChipState, bytes_of, is_busy, pull_of, take_bit, power_chip, takes}
 use Rattle.chip.proofs.Keeps.{off_powerless, power_same}
 use Rattle.chip.proofs.Select.{Hears}
 use Rattle.chip.proofs.Sound.{Sound, met_sound}
@@ -50,10 +50,10 @@ said_send (b ∷ bs) qs c h =
 
 -- bits of a number read
 said_number : (bs : List Bool) (qs : List Request) (rc : Bool) (c : ChipState)
-    → said (bit_calls (replicate (length bs) true) ++ qs) (sent protocols bs rc c) ≡ map bit_is bs ++ said qs (sent protocols [] rc c)
+    → said (bit_calls (replicate (length bs) true) ++ qs) (after_sent protocols bs rc c) ≡ map bit_is bs ++ said qs (after_sent protocols [] rc c)
 said_number [] qs rc c = refl
 said_number (b ∷ bs) qs rc c =
-    said_slot true (bit_calls (replicate (length bs) true) ++ qs) (sent protocols (b ∷ bs) rc c) refl
+    said_slot true (bit_calls (replicate (length bs) true) ++ qs) (after_sent protocols (b ∷ bs) rc c) refl
     ∙ ap (λ t. bit_is b ∷ t) (said_number bs qs rc c)
 
 module _ (K : Rules) (x : ℕ) (m : List ℕ) where
@@ -80,11 +80,11 @@ ask_memory = bits_all (0xF0 ∷ 0 ∷ 0 ∷ [])
 abbrev read_memory : ℕ → List Request
 read_memory k = bit_calls (replicate k true) ++ []
 
-abbrev read_number : ℕ → List Request
-read_number k = bit_calls (replicate 64 true) ++ (bit_calls ask_memory ++ read_memory k)
+abbrev read_rom : ℕ → List Request
+read_rom k = bit_calls (replicate 64 true) ++ (bit_calls ask_memory ++ read_memory k)
 
 abbrev probe : ℕ → List Request
-probe k = reset ∷ (bit_calls ask_number ++ read_number k)
+probe k = reset ∷ (bit_calls ask_number ++ read_rom k)
 
 -- and what is replied to it
 abbrev everything : ℕ → List ℕ → List Reply
@@ -100,7 +100,7 @@ module _ (K : Rules) (x : ℕ) (m : List ℕ) where
   told : (k : ℕ) → length (bits_all m) ≡ k → said (probe k) (tag_at K x m (under false resting) (on fresh idle)) ≡ everything x m
   told k e =
       ap (λ t. presence_is true ∷ t)
-      (said_send ask_number (read_number k) (tag_at K x m (under false (commanded [])) (on fresh idle)) number_asked
+      (said_send ask_number (read_rom k) (tag_at K x m (under false (commanded [])) (on fresh idle)) number_asked
       ∙ ap (λ t. map bit_is ask_number ++ t)
       (said_number (bits_of 64 x) (bit_calls ask_memory ++ read_memory k) false (tag_at K x m off (on fresh idle))
       ∙ ap (λ t. map bit_is (bits_of 64 x) ++ t)
@@ -120,7 +120,7 @@ given_bits (b ∷ bs) qs g = (tt, given_bits bs qs g)
 given_probe : (k : ℕ) → GivenAll (probe k)
 given_probe k = (
   tt,
-  given_bits ask_number (read_number k) (given_bits (replicate 64 true) (bit_calls ask_memory ++ read_memory k)
+  given_bits ask_number (read_rom k) (given_bits (replicate 64 true) (bit_calls ask_memory ++ read_memory k)
       (given_bits ask_memory (read_memory k) (given_bits (replicate k true) [] tt))),
 )
 
@@ -186,10 +186,10 @@ sound_bytes (padded p) s = s.small
 
 -- a tag that a power-up found without power
 abbrev woken : ChipState → ChipState
-woken c = record { number = c.number; live = under false resting; memory = wake_memory c.memory }
+woken c = record { number = c.number; live = under false resting; memory = power_up_memory c.memory }
 
 woken_told : (x : ℕ) (m : Memory) (k : ℕ) → length (bits_all (bytes_in m)) ≡ k
-    → said (probe k) (record { number = x; live = under false resting; memory = wake_memory m }) ≡ everything x (bytes_in m)
+    → said (probe k) (record { number = x; live = under false resting; memory = power_up_memory m }) ≡ everything x (bytes_in m)
 woken_told x (padded p) k e = told p.rules x p.bytes k e
 
 module _ (r : RigState) (c : ChipState) (j : JustUp r c) where

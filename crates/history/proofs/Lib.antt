@@ -1,10 +1,10 @@
-pub mod Runs
+pub mod Edges
+pub mod Identity
 pub mod Lent
 pub mod Moments
-pub mod Stays
-pub mod Silent
-pub mod Preserved
 pub mod Outlives
-pub mod Identity
+pub mod Preserved
 pub mod Promised
-pub mod Edges
+pub mod Runs
+pub mod Silent
+pub mod Stays

@@ -1,17 +1,17 @@
 -- What every event of a chip keeps, every list of calls on a line of chips keeps, at each of its moments.
 use Rattle.std.proofs.Common.{◌≡◌, ℕ, zero, suc, ◌%◌, Bool, true, false, ◌&&◌, eqb, List, [], ◌∷◌, ◌++◌, map, refl, subst}
-use Rattle.bits.proofs.Choice.{pick}
-use Rattle.kind.specs.Kinds.{row_length}
-use Rattle.chip.specs.Steps.{ChipState}
+use Rattle.base.proofs.Choice.{pick}
+use Rattle.kinds.specs.Kinds.{row_length}
+use Rattle.chip.specs.ChipStates.{ChipState}
 use Rattle.chip.specs.Events.{Event, reset_came, bit_came, dwell_came, power_failed, power_came, effect}
 use Rattle.line.specs.Lines.{pull}
-use Rattle.rig.specs.Rigs.{RigState, FuseState, none, after, Pulse, resets, slots, dwells, act, pulse_by, pulse, refused, counted}
+use Rattle.rig.specs.Rigs.{RigState, FuseState, none, after, Pulse, reset_pulse, slot_pulse, dwell_pulse, line_after, pulse_by, pulse, refused, counted}
 use Rattle.wire.specs.Jobs.{Job, ret, step, Ran, line_busy, run, refused_as, report_of}
 use Rattle.wire.specs.Laws.{Along, states}
 use Rattle.reading.specs.Readings.{reading}
-use Rattle.survey.specs.Surveys.{passes, room_of, listed}
+use Rattle.rom_search.specs.Searches.{passes, room_of, listed}
 use Rattle.order.specs.Orders.{ordering, verdict_of, refuses}
-use Rattle.history.specs.Calls.{Request, reset, slot, dwell, cut, power_up, fuse, survey, read, order, Reply, presence_is, bit_is, done, stepped, serve, serve_all, within, moments}
+use Rattle.history.specs.Calls.{Request, reset, slot, dwell, cut, power_up, fuse, rom_search, read, order, Reply, presence_is, bit_is, done, stepped, serve, serve_all, within, moments}
 
 -- P holds of each chip at each moment, and R from each chip to the next moment's
 module _ (P : ChipState → Type 0) (R : ChipState → ChipState → Type 0) where
@@ -55,16 +55,16 @@ module _ (P : ChipState → Type 0) (R : ChipState → ChipState → Type 0) whe
     onward-effect t (c ∷ cs) e =
         let one = keeps t c e.0 in let rest = onward-effect t cs e.1 in ((one.0, rest.0), (one.1, rest.1))
 
-    onward-act : (p : Pulse) (l : List ChipState) → Each l → Onward l (act p l)
-    onward-act resets l e = onward-effect reset_came l e
-    onward-act (slots b) l e = onward-effect (bit_came (b && pull l)) l e
-    onward-act dwells l e = onward-effect dwell_came l e
+    onward-line_after : (p : Pulse) (l : List ChipState) → Each l → Onward l (line_after p l)
+    onward-line_after reset_pulse l e = onward-effect reset_came l e
+    onward-line_after (slot_pulse b) l e = onward-effect (bit_came (b && pull l)) l e
+    onward-line_after dwell_pulse l e = onward-effect dwell_came l e
 
     -- a pulse with any fuse
     pub onward-pulse : (f : FuseState) (p : Pulse) (l : List ChipState) → Each l → Onward l (pulse_by f p l).0.line
-    onward-pulse none p l e = onward-act p l e
+    onward-pulse none p l e = onward-line_after p l e
     onward-pulse (after zero mask) p l e = onward-effect (power_failed mask) l e
-    onward-pulse (after (suc n) mask) p l e = onward-act p l e
+    onward-pulse (after (suc n) mask) p l e = onward-line_after p l e
 
     -- any job, from step to step
     pub way-states : {A : Type 0} (n : ℕ) (j : Job A) (r : RigState) → Each r.line → Way r (states j r) (run n j r).rig
@@ -103,8 +103,8 @@ module _ (P : ChipState → Type 0) (R : ChipState → ChipState → Type 0) whe
     way_unless true j r say refusal e = refl
     way_unless false j r say refusal e = way-states 0 j r e
 
-    way-survey : (places : ℕ) (r : RigState) → Each r.line → Way r (within (survey places) r) (serve (survey places) r).0
-    way-survey places r e = way_unless (eqb places 0) (passes (room_of places) 1 [] []) r (λ w. listed w.got w.steps) (refused_as 9 0 0, []) e
+    way-rom_search : (places : ℕ) (r : RigState) → Each r.line → Way r (within (rom_search places) r) (serve (rom_search places) r).0
+    way-rom_search places r e = way_unless (eqb places 0) (passes (room_of places) 1 [] []) r (λ w. listed w.got w.steps) (refused_as 9 0 0, []) e
 
     way-read : (x row : ℕ) (r : RigState) → Each r.line → Way r (within (read x row) r) (serve (read x row) r).0
     way-read x row r e = way_if (eqb (row % row_length) 0) (reading x row) r (λ w. report_of w.got w.steps) (refused_as 4 0 0) e
@@ -119,15 +119,15 @@ module _ (P : ChipState → Type 0) (R : ChipState → ChipState → Type 0) whe
     -- through a call, and on from its end
     chain_call : (q : Request) (r : RigState) (us : List RigState) → Each r.line → (Each (serve q r).0.line → Chain (serve q r).0 us)
         → Chain r (within q r ++ ((serve q r).0 ∷ us))
-    chain_call reset r us e h = let o = onward-stepped resets presence_is r e in (o, h o.0)
-    chain_call (slot b) r us e h = let o = onward-stepped (slots b) bit_is r e in (o, h o.0)
-    chain_call dwell r us e h = let o = onward-stepped dwells (λ _. done) r e in (o, h o.0)
+    chain_call reset r us e h = let o = onward-stepped reset_pulse presence_is r e in (o, h o.0)
+    chain_call (slot b) r us e h = let o = onward-stepped (slot_pulse b) bit_is r e in (o, h o.0)
+    chain_call dwell r us e h = let o = onward-stepped dwell_pulse (λ _. done) r e in (o, h o.0)
     chain_call (cut mask) r us e h = let o = onward-effect (power_failed mask) r.line e in (o, h o.0)
     chain_call power_up r us e h = let o = onward-effect power_came r.line e in (o, h o.0)
     chain_call (fuse count mask) r us e h = (onward_self r.line e, h e)
-    chain_call (survey places) r us e h =
-        let w = way-survey places r e in
-        way_then r (within (survey places) r) (serve (survey places) r).0 us e w (h (way_each r (within (survey places) r) (serve (survey places) r).0 e w))
+    chain_call (rom_search places) r us e h =
+        let w = way-rom_search places r e in
+        way_then r (within (rom_search places) r) (serve (rom_search places) r).0 us e w (h (way_each r (within (rom_search places) r) (serve (rom_search places) r).0 e w))
     chain_call (read x row) r us e h =
         let w = way-read x row r e in
         way_then r (within (read x row) r) (serve (read x row) r).0 us e w (h (way_each r (within (read x row) r) (serve (read x row) r).0 e w))
@@ -144,13 +144,13 @@ module _ (P : ChipState → Type 0) (R : ChipState → ChipState → Type 0) whe
     -- from the beginning of a call, and of any list of calls, to its end
     module _ (trans : (c d e : ChipState) → R c d → R d e → R c e) where
       pub onward-serve : (q : Request) (r : RigState) → Each r.line → Onward r.line (serve q r).0.line
-      onward-serve reset r e = onward-stepped resets presence_is r e
-      onward-serve (slot b) r e = onward-stepped (slots b) bit_is r e
-      onward-serve dwell r e = onward-stepped dwells (λ _. done) r e
+      onward-serve reset r e = onward-stepped reset_pulse presence_is r e
+      onward-serve (slot b) r e = onward-stepped (slot_pulse b) bit_is r e
+      onward-serve dwell r e = onward-stepped dwell_pulse (λ _. done) r e
       onward-serve (cut mask) r e = onward-effect (power_failed mask) r.line e
       onward-serve power_up r e = onward-effect power_came r.line e
       onward-serve (fuse count mask) r e = onward_self r.line e
-      onward-serve (survey places) r e = way_ends trans r (within (survey places) r) (serve (survey places) r).0 e (way-survey places r e)
+      onward-serve (rom_search places) r e = way_ends trans r (within (rom_search places) r) (serve (rom_search places) r).0 e (way-rom_search places r e)
       onward-serve (read x row) r e = way_ends trans r (within (read x row) r) (serve (read x row) r).0 e (way-read x row r e)
       onward-serve (order x row new) r e = way_ends trans r (within (order x row new) r) (serve (order x row new) r).0 e (way-order x row new r e)
 

@@ -1,7 +1,7 @@
 -- Protection outlives everything: from each moment of a history to every later one.
 use Rattle.wire.specs.Laws.{Along}
 use Rattle.std.proofs.Common.{List, [], ◌∷◌}
-use Rattle.chip.specs.Steps.{ChipState}
+use Rattle.chip.specs.ChipStates.{ChipState}
 use Rattle.chip.specs.Histories.{MetAll}
 use Rattle.rig.specs.Rigs.{RigState, made_rig}
 use Rattle.history.specs.Calls.{Request, moments}

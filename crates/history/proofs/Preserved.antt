@@ -1,15 +1,15 @@
 -- Every event of a sealed tag keeps what is protected then.
 use Rattle.std.proofs.Common.{◌≡◌, ℕ, Bool, true, false, List, [], ◌∷◌, sym, refl, ap, ◌∙◌, subst, true≢false}
-use Rattle.bits.proofs.Choice.{pick}
-use Rattle.kind.specs.Kinds.{whole_row, program}
-use Rattle.sealed.specs.Sealed.{sealed}
-use Rattle.sealed.specs.Protection.{Keeps}
-use Rattle.sealed.proofs.Protection.{Suits, RowSuits, suits_load, keeps_program, keeps_self, keeps_trans, again}
+use Rattle.base.proofs.Choice.{pick}
+use Rattle.kinds.specs.Kinds.{whole_row, program}
+use Rattle.kinds.specs.SealedTag.{sealed}
+use Rattle.kinds.specs.Protection.{Keeps}
+use Rattle.kinds.proofs.Protection.{Suits, RowSuits, suits_load, keeps_program, keeps_self, keeps_trans, again}
 use Rattle.memory.specs.Scratchpads.{row_of}
-use Rattle.memory.specs.Memories.{Memory, padded, kind_in, bytes_in, begin_memory, take_memory, wake_memory, dwell_memory, burn_memory}
+use Rattle.memory.specs.Memories.{Memory, padded, kind_in, bytes_in, select_memory, take_memory, power_up_memory, dwell_memory, cut_memory}
 use Rattle.memory.proofs.Sound.{SoundMemory, begun_sound, taken_sound}
 use Rattle.memory.proofs.Ready.{ReadyPad, begun_ready, woken_ready, taken_ready, burnt_each, dwelt_ready}
-use Rattle.chip.specs.Steps.{ChipState, bytes_of, has_power, is_busy, take_bit, reset_chip, dwell_chip, cut_chip, power_chip}
+use Rattle.chip.specs.ChipStates.{ChipState, bytes_of, has_power, is_busy, take_bit, reset_chip, dwell_chip, cut_chip, power_chip}
 use Rattle.chip.specs.Histories.{effects, Met}
 use Rattle.chip.specs.Events.{Event, reset_came, bit_came, dwell_came, power_failed, power_came, effect}
 use Rattle.chip.proofs.Keeps.{number-taken, bytes_taken, bytes_power, bytes_dwell_idle, bytes_dwell_busy, bytes_cut_idle, bytes_cut_busy, off_powerless, off-busy, off-taken, off-reset}
@@ -31,7 +31,7 @@ pub record Safe (c : ChipState) : Type 0 where
 abbrev Both : Memory → Type 0
 Both m = SoundMemory m × SealedReady m
 
-both_begun : (m : Memory) → Both m → Both (begin_memory m)
+both_begun : (m : Memory) → Both m → Both (select_memory m)
 both_begun (padded p) h = (begun_sound (padded p) h.0, λ e. begun_ready Suits p (h.1 e))
 
 both_taken : (m : Memory) (b : Bool) → Both m → Both (take_memory m b)
@@ -40,7 +40,7 @@ both_taken (padded p) b h = (taken_sound (padded p) b h.0, λ e. taken_ready Sui
     fits : p.rules ≡ sealed → (a x : ℕ) → Suits p.bytes a (p.rules.load p.bytes a x)
     fits e a x = subst (λ K. Suits p.bytes a (K.load p.bytes a x)) (sym e) (suits_load p.bytes a x)
 
-ready_woken : (m : Memory) → SealedReady (wake_memory m)
+ready_woken : (m : Memory) → SealedReady (power_up_memory m)
 ready_woken (padded p) = λ _. woken_ready Suits p
 
 ready_dwelt : (m : Memory) → SoundMemory m → SealedReady m → SealedReady (dwell_memory m)
@@ -57,7 +57,7 @@ ready_dwelt (padded p) s h = λ e. dwelt_ready Suits p (fit e) (h e)
         subst (λ w. RowSuits (program w row pad whole_row p.bytes) row pad) (sym (ap (λ K. K.w) e))
         (again row pad p.bytes (s.whole ∙ ap (λ K. K.n) e) s.work.regs.small)
 
-keeps_burnt : (m : Memory) (mask : ℕ) → SoundMemory m → SealedReady m → kind_in m ≡ sealed → Keeps (bytes_in m) (bytes_in (burn_memory m mask))
+keeps_burnt : (m : Memory) (mask : ℕ) → SoundMemory m → SealedReady m → kind_in m ≡ sealed → Keeps (bytes_in m) (bytes_in (cut_memory m mask))
 keeps_burnt (padded p) mask s h e =
     burnt_each Suits (Keeps p.bytes) p mask (h e)
     (λ fit. keeps_program p.bytes p.rules.w (row_of p.work.regs) p.work.regs.pad mask s.small fit) (keeps_self p.bytes)
@@ -92,7 +92,7 @@ safe_cut mask c s = record { sound = sound_cut mask c s.sound; ready = λ e. abs
 safe_power : (c : ChipState) → Safe c → Safe (power_chip c)
 safe_power c s = record { sound = sound_power c s.sound; ready = λ _. go (has_power c) refl }
   where
-    go : (t : Bool) → has_power c ≡ t → SealedReady (elim t as (λ _. Memory) [ true ↦ c.memory | false ↦ wake_memory c.memory ])
+    go : (t : Bool) → has_power c ≡ t → SealedReady (elim t as (λ _. Memory) [ true ↦ c.memory | false ↦ power_up_memory c.memory ])
     go true e = s.ready e
     go false e = ready_woken c.memory
 
@@ -101,15 +101,15 @@ keeps_same : (c d : ChipState) → bytes_of d ≡ bytes_of c → Keeps (bytes_of
 keeps_same c d e = subst (Keeps (bytes_of c)) (sym e) (keeps_self (bytes_of c))
 
 -- a chip that programs has power
-busy-powered : (c : ChipState) → is_busy c ≡ true → has_power c ≡ true
-busy-powered c h = go (has_power c) refl
+any_busy-powered : (c : ChipState) → is_busy c ≡ true → has_power c ≡ true
+any_busy-powered c h = go (has_power c) refl
   where
     go : (t : Bool) → has_power c ≡ t → has_power c ≡ true
     go true e = e
     go false e = absurd (true≢false (sym h ∙ off-busy c (off_powerless c e)))
 
-keeps_programmed : (mask : ℕ) (c : ChipState) → Safe c → is_busy c ≡ true → kind_in c.memory ≡ sealed → Keeps (bytes_of c) (bytes_in (burn_memory c.memory mask))
-keeps_programmed mask c s h e = keeps_burnt c.memory mask s.sound.memory (s.ready (busy-powered c h)) e
+keeps_programmed : (mask : ℕ) (c : ChipState) → Safe c → is_busy c ≡ true → kind_in c.memory ≡ sealed → Keeps (bytes_of c) (bytes_in (cut_memory c.memory mask))
+keeps_programmed mask c s h e = keeps_burnt c.memory mask s.sound.memory (s.ready (any_busy-powered c h)) e
 
 keeps_dwell : (c : ChipState) → Safe c → kind_in c.memory ≡ sealed → Keeps (bytes_of c) (bytes_of (dwell_chip c))
 keeps_dwell c s e = go (is_busy c) refl

@@ -4,7 +4,7 @@ use Rattle.chip.specs.Histories.{MetAll}
 use Rattle.rig.specs.Rigs.{RigState, made_rig}
 use Rattle.order.proofs.Truth.{order-tells}
 use Rattle.history.specs.Calls.{Request, Reply, serve, serve_all}
-use Rattle.history.specs.Meaning.{request_of}
+use Rattle.history.specs.CallMeaning.{request_of}
 use Rattle.history.specs.Promises.{after_all, VerdictIsTrue, VerdictTrue, VerdictsTrue, Promises}
 use Rattle.history.specs.declared.calls.Answer.{Answer}
 use Rattle.history.specs.declared.calls.Call.{Call}

@@ -4,7 +4,7 @@ use Rattle.std.proofs.lemmas.List.{take_more, take_more_set, map_push, length-ta
 use Rattle.rig.specs.Rigs.{RigState}
 use Rattle.history.specs.declared.calls.Call.{Call}
 use Rattle.history.specs.declared.calls.Answer.{Answer}
-use Rattle.history.specs.Meaning.{request_of, reply_of, form_of, form_asked, call_count, tally, Unfilled, AllUnfilled}
+use Rattle.history.specs.CallMeaning.{request_of, reply_of, form_of, form_asked, call_count, tally, Unfilled, AllUnfilled}
 use Rattle.history.specs.Calls.{Reply, run_all, serve, serve_all}
 
 -- one more of what is asked of the first

@@ -1,12 +1,12 @@
 -- What every list of calls leaves of a line: its numbers, its bytes but for programming, and what its chips have met.
 use Rattle.std.proofs.Common.{◌≡◌, ℕ, Bool, true, false, List, [], ◌∷◌, ◌++◌, map, sym, refl, ap, ◌∙◌, ap₂}
-use Rattle.kind.specs.Kinds.{whole_row}
-use Rattle.chip.specs.Steps.{ChipState, is_busy, dwell_chip, cut_chip}
+use Rattle.kinds.specs.Kinds.{whole_row}
+use Rattle.chip.specs.ChipStates.{ChipState, is_busy, dwell_chip, cut_chip}
 use Rattle.chip.specs.Histories.{effects, Met, MetAll}
 use Rattle.chip.specs.Events.{Event, reset_came, bit_came, dwell_came, power_failed, power_came, effect}
 use Rattle.chip.proofs.Keeps.{number-taken, bytes_taken, bytes_reset, bytes_power, bytes_dwell_idle, bytes_dwell_busy, bytes_cut_idle, bytes_cut_busy, off_powerless, power_same}
 use Rattle.rig.specs.Rigs.{RigState}
-use Rattle.history.specs.Calls.{Request, reset, slot, dwell, cut, power_up, fuse, survey, read, order, serve, moments}
+use Rattle.history.specs.Calls.{Request, reset, slot, dwell, cut, power_up, fuse, rom_search, read, order, serve, moments}
 use Rattle.wire.specs.Laws.{Along}
 use Rattle.history.specs.Laws.{Stepwise, Change, same, programmed, NumbersStay, Plain, OnlyProgramming, StepsOnlyProgram, PowerUpForgets, MetStays}
 use Rattle.history.proofs.Moments.{Each, Chain, chain_moments, onward_all}
@@ -82,7 +82,7 @@ only_programming r q p = go q p (steps_only_program r (q ∷ []))
     go (cut mask) p h = h.0
     go power_up p h = h.0
     go (fuse count mask) p h = h.0
-    go (survey places) p h = absurd p
+    go (rom_search places) p h = absurd p
     go (read x row) p h = absurd p
     go (order x row new) p h = absurd p
 

@@ -1,11 +1,11 @@
 -- The calls that a rig takes, and what a list of them does.
 use Rattle.std.specs.Prelude.{ℕ, ◌%◌, Bool, true, false, List, [], ◌∷◌, ◌++◌, ◌==◌}
-use Rattle.kind.specs.Kinds.{row_length}
-use Rattle.rig.specs.Rigs.{RigState, Pulse, resets, slots, dwells, pulse, refused, cut_rig, power_rig, set_fuse}
+use Rattle.kinds.specs.Kinds.{row_length}
+use Rattle.rig.specs.Rigs.{RigState, Pulse, reset_pulse, slot_pulse, dwell_pulse, pulse, refused, cut_rig, power_rig, set_fuse}
 use Rattle.wire.specs.Jobs.{Report}
 use Rattle.wire.specs.Laws.{states}
 use Rattle.reading.specs.Readings.{reading, read_call}
-use Rattle.survey.specs.Surveys.{passes, room_of, survey_call}
+use Rattle.rom_search.specs.Searches.{passes, room_of, search_call}
 use Rattle.order.specs.Orders.{ordering, order_call, Verdict}
 
 pub data Request : Type 0 where
@@ -15,7 +15,7 @@ pub data Request : Type 0 where
   cut : ℕ → Request
   power_up : Request
   fuse : ℕ → ℕ → Request
-  survey : ℕ → Request  -- with a list of so many places of its own
+  rom_search : ℕ → Request  -- with a list of so many places of its own
   read : ℕ → ℕ → Request  -- a number and a row, with eight bytes of its own to write
   order : ℕ → ℕ → List ℕ → Request  -- a number, a row and its new bytes
 
@@ -33,13 +33,13 @@ abbrev pub stepped : Pulse → (Bool → Reply) → RigState → RigState × Rep
 stepped p say r = elim (refused p r.line) [ true ↦ (r, refused_with 3) | false ↦ ((pulse p r).0, say (pulse p r).1) ]
 
 abbrev pub serve : Request → RigState → RigState × Reply
-serve reset r = stepped resets presence_is r
-serve (slot b) r = stepped (slots b) bit_is r
-serve dwell r = stepped dwells (λ _. done) r
+serve reset r = stepped reset_pulse presence_is r
+serve (slot b) r = stepped (slot_pulse b) bit_is r
+serve dwell r = stepped dwell_pulse (λ _. done) r
 serve (cut mask) r = (cut_rig mask r, done)
 serve power_up r = (power_rig r, done)
 serve (fuse count mask) r = (set_fuse count mask r, done)
-serve (survey places) r = let s = survey_call places r in (s.0, listed s.1)
+serve (rom_search places) r = let s = search_call places r in (s.0, listed s.1)
 serve (read x row) r = let s = read_call x row r in (s.0, row_is s.1)
 serve (order x row new) r = let s = order_call x row new r in (s.0, judged_as s.1)
 
@@ -59,7 +59,7 @@ within dwell r = []
 within (cut mask) r = []
 within power_up r = []
 within (fuse count mask) r = []
-within (survey places) r = elim (places == 0) [ true ↦ [] | false ↦ states (passes (room_of places) 1 [] []) r ]
+within (rom_search places) r = elim (places == 0) [ true ↦ [] | false ↦ states (passes (room_of places) 1 [] []) r ]
 within (read x row) r = elim (row % row_length == 0) [ false ↦ [] | true ↦ states (reading x row) r ]
 within (order x row new) r = elim (row % row_length == 0) [ false ↦ [] | true ↦ states (ordering x row new) r ]
 

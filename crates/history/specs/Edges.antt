@@ -1,14 +1,14 @@
 -- Runs at the edges of the rules, on rigs of sealed tags: what is replied, in how many steps, and what the row holds then.
 use Rattle.std.specs.Prelude.{◌≡◌, ℕ, true, false, List, [], ◌∷◌, ◌++◌, replicate, slice_set}
-use Rattle.number.specs.Numbers.{making, number, refused}
-use Rattle.sealed.specs.Sealed.{sealed}
-use Rattle.chip.specs.Steps.{ChipState, bytes_of}
-use Rattle.tag.specs.Tags.{made_tag}
+use Rattle.base.specs.RegistrationNumbers.{making, number, refused}
+use Rattle.kinds.specs.SealedTag.{sealed}
+use Rattle.chip.specs.ChipStates.{ChipState, bytes_of}
+use Rattle.line.specs.TagMaking.{made_tag}
 use Rattle.rig.specs.Rigs.{RigState, made_rig}
 use Rattle.wire.specs.Jobs.{answered}
 use Rattle.wire.specs.Laws.{row_in}
 use Rattle.order.specs.Orders.{holds, refuses, refuses_at}
-use Rattle.history.specs.Calls.{Request, power_up, fuse, survey, read, order, Reply, done, listed, row_is, judged_as, serve_all}
+use Rattle.history.specs.Calls.{Request, power_up, fuse, rom_search, read, order, Reply, done, listed, row_is, judged_as, serve_all}
 
 -- two numbers: eight bytes 00h, and six 00h, 01h, 5Eh
 abbrev pub zero_number : ℕ
@@ -86,6 +86,6 @@ pub record EdgeRuns : Type 0 where
   pub zero_lawful : making zero_number ≡ number zero_number
   pub second_lawful : making second_number ≡ number second_number
   pub second_broken : making 0x5F01000000000000 ≡ refused 1
-  -- a survey of two tags takes 402 steps, and a reading 267
-  pub two_listed : replies (power_up ∷ survey 10 ∷ []) joined ≡ done ∷ listed (answered 2 402, zero_number ∷ second_number ∷ []) ∷ []
+  -- a search of two tags takes 402 steps, and a reading 267
+  pub two_listed : replies (power_up ∷ rom_search 10 ∷ []) joined ≡ done ∷ listed (answered 2 402, zero_number ∷ second_number ∷ []) ∷ []
   pub row_read : replies (power_up ∷ read second_number 0x20 ∷ []) joined ≡ done ∷ row_is (answered (eight 0) 267) ∷ []

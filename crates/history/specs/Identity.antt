@@ -1,12 +1,12 @@
 -- A tag is its number and its bytes: nothing else tells two tags of one kind apart.
 use Rattle.std.specs.Prelude.{◌≡◌, ◌^◌, ◌<◌, false, ◌↔◌, List, [], ◌∷◌, length}
-use Rattle.number.specs.Numbers.{Checked}
-use Rattle.kind.specs.Kinds.{Bytes, row_length}
+use Rattle.base.specs.RegistrationNumbers.{IsChecked}
+use Rattle.kinds.specs.Kinds.{Bytes, row_length}
 use Rattle.memory.specs.Memories.{kind_in}
-use Rattle.chip.specs.Steps.{ChipState, bytes_of, has_power}
+use Rattle.chip.specs.ChipStates.{ChipState, bytes_of, has_power}
 use Rattle.chip.specs.Histories.{Met}
 use Rattle.rig.specs.Rigs.{RigState, made_rig, power_rig}
-use Rattle.history.specs.Calls.{Request, reset, slot, dwell, cut, power_up, fuse, survey, read, order, Reply, serve_all}
+use Rattle.history.specs.Calls.{Request, reset, slot, dwell, cut, power_up, fuse, rom_search, read, order, Reply, serve_all}
 
 -- arguments that a master can give: words of 64 bits, registration numbers, addresses of 16 bits, rows of bytes
 abbrev pub Given : Request → Type 0
@@ -16,9 +16,9 @@ Given dwell = Unit {0}
 Given (cut mask) = mask < 2 ^ 64
 Given power_up = Unit {0}
 Given (fuse count mask) = (count < 2 ^ 32) × (mask < 2 ^ 64)
-Given (survey places) = Unit {0}
-Given (read x row) = (x < 2 ^ 64) × Checked x × (row < 65536)
-Given (order x row new) = (x < 2 ^ 64) × Checked x × (row < 65536) × (length new ≡ row_length) × Bytes new
+Given (rom_search places) = Unit {0}
+Given (read x row) = (x < 2 ^ 64) × IsChecked x × (row < 65536)
+Given (order x row new) = (x < 2 ^ 64) × IsChecked x × (row < 65536) × (length new ≡ row_length) × Bytes new
 
 abbrev pub GivenAll : List Request → Type 0
 GivenAll [] = Unit {0}

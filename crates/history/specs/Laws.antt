@@ -1,15 +1,15 @@
 -- Laws of every list of calls on every rig.
 use Rattle.std.specs.Prelude.{◌≡◌, ℕ, ◌%◌, true, false, List, [], ◌∷◌, map, ◌==◌}
-use Rattle.kind.specs.Kinds.{row_length}
-use Rattle.memory.specs.Memories.{bytes_in, kind_in, burn_memory}
-use Rattle.chip.specs.Steps.{ChipState, bytes_of, has_power, is_busy, power_chip}
+use Rattle.kinds.specs.Kinds.{row_length}
+use Rattle.memory.specs.Memories.{bytes_in, kind_in, cut_memory}
+use Rattle.chip.specs.ChipStates.{ChipState, bytes_of, has_power, is_busy, power_chip}
 use Rattle.chip.specs.Histories.{MetAll}
 use Rattle.line.specs.Lines.{presence}
 use Rattle.rig.specs.Rigs.{RigState}
 use Rattle.wire.specs.Jobs.{refused_as}
 use Rattle.wire.specs.Laws.{Along}
 use Rattle.order.specs.Orders.{refuses}
-use Rattle.history.specs.Calls.{Request, reset, slot, dwell, cut, power_up, fuse, survey, read, order, Reply, presence_is, bit_is, done, listed, row_is, judged_as, serve, serve_all, moments}
+use Rattle.history.specs.Calls.{Request, reset, slot, dwell, cut, power_up, fuse, rom_search, read, order, Reply, presence_is, bit_is, done, listed, row_is, judged_as, serve, serve_all, moments}
 
 abbrev pub numbers : RigState → List ℕ
 numbers r = map (λ c. c.number) r.line
@@ -22,7 +22,7 @@ NumbersStay = (r : RigState) (qs : List Request) → numbers (serve_all qs r).0 
 -- or the tag was programming, and its row took the scratchpad through a mask
 pub data Change (c d : ChipState) : Type 0 where
   same : bytes_of d ≡ bytes_of c → Change c d
-  programmed : (mask : ℕ) → is_busy c ≡ true → bytes_of d ≡ bytes_in (burn_memory c.memory mask) → Change c d
+  programmed : (mask : ℕ) → is_busy c ≡ true → bytes_of d ≡ bytes_in (cut_memory c.memory mask) → Change c d
 
 -- from each moment to the next
 abbrev pub Stepwise : (ChipState → ChipState → Type 0) → RigState → List RigState → Type 0
@@ -37,7 +37,7 @@ Plain dwell = Unit {0}
 Plain (cut mask) = Unit {0}
 Plain power_up = Unit {0}
 Plain (fuse count mask) = Unit {0}
-Plain (survey places) = ⊥
+Plain (rom_search places) = ⊥
 Plain (read x row) = ⊥
 Plain (order x row new) = ⊥
 
@@ -57,7 +57,7 @@ silent dwell = done
 silent (cut mask) = done
 silent power_up = done
 silent (fuse count mask) = done
-silent (survey places) = elim (places == 0) [ true ↦ listed (refused_as 9 0 0, []) | false ↦ listed (refused_as 5 1 1, []) ]
+silent (rom_search places) = elim (places == 0) [ true ↦ listed (refused_as 9 0 0, []) | false ↦ listed (refused_as 5 1 1, []) ]
 silent (read x row) = elim (row % row_length == 0) [ true ↦ row_is (refused_as 5 1 1) | false ↦ row_is (refused_as 4 0 0) ]
 silent (order x row new) = elim (row % row_length == 0) [ true ↦ judged_as (refuses 5 1 1) | false ↦ judged_as (refuses 4 0 0) ]
 
@@ -69,7 +69,7 @@ NoPowerUp (dwell ∷ qs) = NoPowerUp qs
 NoPowerUp (cut mask ∷ qs) = NoPowerUp qs
 NoPowerUp (power_up ∷ qs) = ⊥
 NoPowerUp (fuse count mask ∷ qs) = NoPowerUp qs
-NoPowerUp (survey places ∷ qs) = NoPowerUp qs
+NoPowerUp (rom_search places ∷ qs) = NoPowerUp qs
 NoPowerUp (read x row ∷ qs) = NoPowerUp qs
 NoPowerUp (order x row new ∷ qs) = NoPowerUp qs
 

@@ -1,6 +1,6 @@
+pub mod CallMeaning
 pub mod Calls
-pub mod Laws
-pub mod Identity
-pub mod Promises
 pub mod Edges
-pub mod Meaning
+pub mod Identity
+pub mod Laws
+pub mod Promises

@@ -1,14 +1,14 @@
 -- What no history of calls can break: protection outlives everything, the verdict is the truth, a tag is its number and its bytes.
 use Rattle.std.specs.Prelude.{◌≡◌, ℕ, List, [], ◌∷◌}
 use Rattle.memory.specs.Memories.{kind_in}
-use Rattle.sealed.specs.Sealed.{sealed}
-use Rattle.sealed.specs.Protection.{Keeps}
-use Rattle.chip.specs.Steps.{ChipState, bytes_of}
+use Rattle.kinds.specs.SealedTag.{sealed}
+use Rattle.kinds.specs.Protection.{Keeps}
+use Rattle.chip.specs.ChipStates.{ChipState, bytes_of}
 use Rattle.chip.specs.Histories.{MetAll}
 use Rattle.rig.specs.Rigs.{RigState, made_rig}
 use Rattle.wire.specs.Laws.{Along, Single}
 use Rattle.order.specs.Orders.{order_call}
-use Rattle.order.specs.Laws.{Began, Tells}
+use Rattle.order.specs.Laws.{OrderBegan, Tells}
 use Rattle.history.specs.Calls.{Request, order, serve, serve_all, moments}
 use Rattle.history.specs.Identity.{Given, TagIsItsBytes}
 
@@ -39,7 +39,7 @@ ProtectionOutlives = (l : List ChipState) → MetAll l → (qs : List Request) �
 
 -- what the verdict tells of one call, if that is an order that began and whose number exactly one chip has
 abbrev pub VerdictTrue : Request → RigState → Type 0
-VerdictTrue (order x row new) r = Began (order_call x row new r).1 → Single x r.line → Tells x row new r
+VerdictTrue (order x row new) r = OrderBegan (order_call x row new r).1 → Single x r.line → Tells x row new r
 VerdictTrue q r = Unit {0}
 
 -- and of each call of a list, at the rig as those before it left it

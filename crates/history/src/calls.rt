@@ -1,11 +1,11 @@
-use kind::rows::ROW;
-use number::registration::Number;
-use order::fault::OrderFault;
-use reading::fault::ReadFault;
-use rig::fault::RigFault;
-use rig::master::Fuse;
-use survey::fault::SurveyFault;
-use survey::listing::MOST_PLACES;
+use kinds::row::ROW;
+use base::registration_number::RegistrationNumber;
+use order::order_fault::OrderFault;
+use reading::read_fault::ReadFault;
+use rig::rig_fault::RigFault;
+use rig::rig::Fuse;
+use rom_search::search_fault::SearchFault;
+use rom_search::job::MOST_PLACES;
 
 // What a rig can be asked; number and row apart, as the jobs take them.
 #[derive(Clone, Copy)]
@@ -16,31 +16,31 @@ pub enum Call {
     Cut(u64),
     PowerUp,
     SetFuse(Fuse),
-    // A survey with a list of so many places of its own.
-    Survey {
+    // A search with a list of so many places of its own.
+    Search {
         places: usize,
     },
     // A reading into a row of its own.
     Read {
-        number: Number,
+        number: RegistrationNumber,
         row: u16,
     },
     Order {
-        number: Number,
+        number: RegistrationNumber,
         row: u16,
         new: [u8; ROW],
     },
 }
 
-// What it answers; a survey with its list.
+// What it answers; a search with its list.
 #[derive(Clone, Copy)]
 pub enum Answer {
     Presence(Result<bool, RigFault>),
     Bit(Result<bool, RigFault>),
     Done,
-    // As many places as a survey fills: fixed memory. How many of them are numbers stands in the outcome.
+    // As many places as a search fills: fixed memory. How many of them are numbers stands in the outcome.
     Listed {
-        outcome: Result<(u8, u32), SurveyFault>,
+        outcome: Result<(u8, u32), SearchFault>,
         places: [u64; MOST_PLACES],
     },
     // The row that was read, and the steps.

@@ -1,33 +1,33 @@
 ghost use Rattle.std.specs.Prelude.{◌≡◌, min, ◌∷◌, map, length, take, drop};
-ghost use Rattle.rig.specs.Meaning.{rig_of, counting};
+ghost use Rattle.rig.specs.RigModel.{rig_of, counting};
 ghost use Rattle.chip.specs.Histories.{MetAll};
 ghost use Rattle.history.specs.Calls.{serve, serve_all, moments};
 ghost use Rattle.history.specs.Edges.{EdgeRuns};
 ghost use Rattle.history.specs.Identity.{KnownByBytes, EndsByBytes};
 ghost use Rattle.history.specs.Laws.{numbers, NumbersStay, OnlyProgramming, StepsOnlyProgram, SilentUnpowered, PowerUpForgets, MetStays};
-ghost use Rattle.history.specs.Meaning.{request_of, reply_of, form_of, form_asked, answer_count, call_count, tally, Unfilled, AllUnfilled};
+ghost use Rattle.history.specs.CallMeaning.{request_of, reply_of, form_of, form_asked, answer_count, call_count, tally, Unfilled, AllUnfilled};
 ghost use Rattle.history.specs.Promises.{Always, VerdictTrue, VerdictsTrue, Promises};
-ghost use Rattle.history.specs.declared.calls.Call.TheVariants.{Survey, Read};
+ghost use Rattle.history.specs.declared.calls.Call.TheVariants.{Search, Read};
 
 use crate::calls::{Answer, Call};
-use kind::rows::ROW;
-use line::bus::Line;
-use number::registration::Number;
+use kinds::row::ROW;
+use line::line::Line;
+use base::registration_number::RegistrationNumber;
 use order::job::order;
 use reading::job::read_row;
-use rig::master::Rig;
-use survey::listing::{MOST_PLACES, survey};
+use rig::rig::Rig;
+use rom_search::job::{MOST_PLACES, search_rom};
 
-// A survey with a list of its own: it fills at most 64 places, so no more are lent.
-fn make_survey<L: Line>(rig: &mut Rig<L>, places: usize) -> Answer
-    ensures told { (rig_of L.chips rig.new, reply_of result) ≡ serve (request_of (Survey places)) (rig_of L.chips rig.old) }
-    ensures form { form_of result ≡ form_asked (Survey places) }
+// A search with a list of its own: it fills at most 64 places, so no more are lent.
+fn make_search<L: Line>(rig: &mut Rig<L>, places: usize) -> Answer
+    ensures told { (rig_of L.chips rig.new, reply_of result) ≡ serve (request_of (Search places)) (rig_of L.chips rig.old) }
+    ensures form { form_of result ≡ form_asked (Search places) }
     ensures counted { (counting L.chips rig.new).steps ≡ answer_count result (counting L.chips rig.old).steps }
     ensures rest { Unfilled result }
 {
     let mut list = [0; MOST_PLACES];
     let lent = places.min(MOST_PLACES);
-    let outcome = survey(rig, &mut list[..lent]);
+    let outcome = search_rom(rig, &mut list[..lent]);
     Answer::Listed {
         outcome,
         places: list,
@@ -35,7 +35,7 @@ fn make_survey<L: Line>(rig: &mut Rig<L>, places: usize) -> Answer
 }
 
 // A reading into a row of its own.
-fn make_reading<L: Line>(rig: &mut Rig<L>, number: Number, row: u16) -> Answer
+fn make_reading<L: Line>(rig: &mut Rig<L>, number: RegistrationNumber, row: u16) -> Answer
     ensures told { (rig_of L.chips rig.new, reply_of result) ≡ serve (request_of (Read number row)) (rig_of L.chips rig.old) }
     ensures form { form_of result ≡ form_asked (Read number row) }
     ensures counted { (counting L.chips rig.new).steps ≡ answer_count result (counting L.chips rig.old).steps }
@@ -72,7 +72,7 @@ pub fn make_call<L: Line>(rig: &mut Rig<L>, call: Call) -> Answer
             rig.set_fuse(fuse);
             Answer::Done
         }
-        Call::Survey { places } => make_survey(rig, places),
+        Call::Search { places } => make_search(rig, places),
         Call::Read { number, row } => make_reading(rig, number, row),
         Call::Order { number, row, new } => Answer::Judged(order(rig, number, row, &new)),
     }

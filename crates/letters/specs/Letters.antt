@@ -1,6 +1,6 @@
 -- The script's letters: what each asks of a rig, what is printed for the reply, and what the rig has counted then.
 use Rattle.std.specs.Prelude.{ℕ, true, false, cond, List, [], ◌∷◌, Some, None, Option, ◌==◌}
-use Rattle.line.specs.Lines.{busy}
+use Rattle.line.specs.Lines.{any_busy}
 use Rattle.rig.specs.Rigs.{RigState, counted}
 use Rattle.history.specs.Calls.{Request, reset, slot, dwell, cut, power_up, Reply, presence_is, bit_is, done, refused_with, listed, row_is, judged_as, serve, run_all}
 
@@ -37,8 +37,8 @@ script_all letters r = run_all script letters r
 
 -- what a rig has counted then: a step more for a dwell, and for a reset or a slot unless the line was busy; no letter asks for a job
 abbrev pub count_after : Option Request → RigState → ℕ → ℕ
-count_after (Some reset) r n = cond (busy r.line) n (counted n)
-count_after (Some (slot b)) r n = cond (busy r.line) n (counted n)
+count_after (Some reset) r n = cond (any_busy r.line) n (counted n)
+count_after (Some (slot b)) r n = cond (any_busy r.line) n (counted n)
 count_after (Some dwell) r n = counted n
 count_after asked r n = n
 

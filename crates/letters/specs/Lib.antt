@@ -1,3 +1,3 @@
+pub mod LetterMeaning
 pub mod Letters
-pub mod Meaning
 pub mod Stream

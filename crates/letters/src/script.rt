@@ -1,13 +1,13 @@
 ghost use Rattle.std.specs.Prelude.{◌≡◌, min, length, take, drop};
-ghost use Rattle.rig.specs.Meaning.{rig_of, counting};
-ghost use Rattle.history.specs.Meaning.{reply_of};
+ghost use Rattle.rig.specs.RigModel.{rig_of, counting};
+ghost use Rattle.history.specs.CallMeaning.{reply_of};
 ghost use Rattle.letters.specs.Letters.{requested, printed, script, script_all, count_after, count_all};
-ghost use Rattle.letters.specs.Meaning.{event_of};
+ghost use Rattle.letters.specs.LetterMeaning.{event_of};
 
 use history::calls::{Answer, Call};
 use history::playing::make_call;
-use line::bus::Line;
-use rig::master::Rig;
+use line::line::Line;
+use rig::rig::Rig;
 
 // What a letter asks, or nothing. A function: both types are other crates', so no `TryFrom` can stand here.
 pub fn event(letter: char) -> Option<Call>

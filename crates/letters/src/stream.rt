@@ -1,12 +1,12 @@
 ghost use Rattle.std.specs.Prelude.{◌≡◌, IfSome, OnOk, OnErr};
 ghost use Rattle.std.specs.Io.KnownBytes.{Appends};
-ghost use Rattle.rig.specs.Meaning.{rig_of};
+ghost use Rattle.rig.specs.RigModel.{rig_of};
 ghost use Rattle.letters.specs.Letters.{script_all};
 ghost use Rattle.letters.specs.Stream.{answers_to, AnswersAll, AnswersFront, WritesFront};
 
 use crate::script::play_letters;
-use line::bus::Line;
-use rig::master::Rig;
+use line::line::Line;
+use rig::rig::Rig;
 use std::io;
 use std::io::{ErrorKind, Read, Write};
 

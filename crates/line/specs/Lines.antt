@@ -1,6 +1,6 @@
 -- Lines: what a bus master drives. A line is the list of its chips.
 use Rattle.std.specs.Prelude.{Bool, true, false, ◌&&◌, ◌||◌, List, [], ◌∷◌}
-use Rattle.chip.specs.Steps.{ChipState, has_power, pull_of, is_busy}
+use Rattle.chip.specs.ChipStates.{ChipState, has_power, pull_of, is_busy}
 
 abbrev pub some : (ChipState → Bool) → List ChipState → Bool
 some f [] = false
@@ -19,5 +19,5 @@ abbrev pub pull : List ChipState → Bool
 pull l = every pull_of l
 
 -- a chip with power is programming
-abbrev pub busy : List ChipState → Bool
-busy l = some is_busy l
+abbrev pub any_busy : List ChipState → Bool
+any_busy l = some is_busy l

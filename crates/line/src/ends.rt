@@ -1,11 +1,11 @@
 ghost use Rattle.std.specs.Prelude.{◌≡◌, [], ◌∷◌, ◌++◌};
-ghost use Rattle.chip.specs.Steps.{made_chip};
-ghost use Rattle.chip.specs.Meaning.{model};
+ghost use Rattle.chip.specs.ChipStates.{made_chip};
+ghost use Rattle.chip.specs.ChipModel.{model};
 
-use crate::bus::Line;
-use chip::device::Chip;
-use memory::protocol::Protocol;
-use number::registration::Number;
+use crate::line::Line;
+use chip::chip::Chip;
+use memory::memory_protocol::Protocol;
+use base::registration_number::RegistrationNumber;
 
 // One tag, whatever its memory.
 #[derive(Drop)]
@@ -15,7 +15,7 @@ pub struct OneTag<P> {
 
 impl<P: Protocol> OneTag<P> {
     // A tag without power.
-    pub fn new(number: Number, behind: P) -> OneTag<P>
+    pub fn new(number: RegistrationNumber, behind: P) -> OneTag<P>
         ensures { model P.memory result.chip ≡ made_chip number.word (P.memory behind) }
     {
         OneTag {
@@ -55,7 +55,7 @@ impl<P: Protocol> Line for OneTag<P> {
         self.chip.pull()
     }
 
-    fn busy(&self) -> bool {
+    fn is_busy(&self) -> bool {
         self.chip.is_busy()
     }
 }
@@ -85,7 +85,7 @@ impl Line for OpenClip {
         true
     }
 
-    fn busy(&self) -> bool {
+    fn is_busy(&self) -> bool {
         false
     }
 }
@@ -141,7 +141,7 @@ impl<A: Line, B: Line> Line for Joint<A, B> {
         self.left.pull() & self.right.pull()
     }
 
-    fn busy(&self) -> bool {
-        self.left.busy() | self.right.busy()
+    fn is_busy(&self) -> bool {
+        self.left.is_busy() | self.right.is_busy()
     }
 }

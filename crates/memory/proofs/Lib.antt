@@ -1,3 +1,4 @@
 pub mod Keeps
-pub mod Sound
 pub mod Ready
+pub mod Sent
+pub mod Sound

@@ -2,10 +2,10 @@
 use Rattle.std.proofs.Common.{◌≡◌, ℕ, ◌+◌, ◌<◌, Bool, true, false, not, ◌&&◌, eqb, leb, ◌≢◌, ◌⊎◌, List, [], ◌∷◌, ◌++◌, length, set, sym, refl, ap, ◌∙◌, subst, inl, inr, true≢false, arith}
 use Rattle.std.proofs.lemmas.List.{get_or-set_same, get_or-set_other}
 use Rattle.std.proofs.lemmas.Bool.{cases_eq, leb-true, eqb-true, not-true, not-false, and_parts}
-use Rattle.bits.specs.Bits.{value, bits_all, full}
-use Rattle.sums.specs.Sums.{crc16, inverted}
-use Rattle.kind.specs.Kinds.{Rules, at, program, whole_row}
-use Rattle.memory.specs.Scratchpads.{Regs, set_pf, set_aa, set_pad, status, offset_of, row_of, Awaited, command, load_low, load_high, load_data, copy_low, copy_high, copy_status, read_low, read_high, Doing, idle, programming, taking, sending, alternating, Work, on, await, Command, write_scratchpad, read_scratchpad, copy_scratchpad, read_memory, unknown, command_of, obey, loaded, copies, got_byte, came, take_on, is_programming, Padded, burnt, wake_pad, begin_pad, take_pad, ended, dwell_pad}
+use Rattle.base.specs.Bits.{value, bits_all, full}
+use Rattle.base.specs.Crc.{crc16, inverted}
+use Rattle.kinds.specs.Kinds.{Rules, at, program, whole_row}
+use Rattle.memory.specs.Scratchpads.{Regs, set_pf, set_aa, set_pad, status, offset_of, row_of, Awaited, command, load_low, load_high, load_data, copy_low, copy_high, copy_status, read_low, read_high, Doing, idle, programming, taking, sending, alternating, Work, on, await, Command, write_scratchpad, read_scratchpad, copy_scratchpad, read_memory, unknown, command_of, run_command, after_data, copy_begins, take_byte, collect_bit, take_doing, is_programming, Padded, programmed_bytes, power_up_pad, select_pad, take_pad, ended, dwell_pad}
 use Rattle.memory.proofs.Sound.{SoundRegs, SoundAwaited, SoundDoing, SoundPad}
 
 -- F says which byte may stand at which address
@@ -46,7 +46,7 @@ module _ (F : ℕ → ℕ → Type 0) where
     pub doing : ReadyDoing w.regs w.doing
 
   module _ (K : Rules) (m : List ℕ) (fits : (a x : ℕ) → F a (K.load m a x)) where
-    obey_ready : (c : Command) (r : Regs) → ReadyRegs r → ReadyWork (obey K m c r)
+    obey_ready : (c : Command) (r : Regs) → ReadyRegs r → ReadyWork (run_command K m c r)
     obey_ready write_scratchpad r f = record { regs = λ e. absurd (true≢false e); doing = refl }
     obey_ready read_scratchpad r f = record { regs = f; doing = tt }
     obey_ready copy_scratchpad r f = record { regs = f; doing = tt }
@@ -67,7 +67,7 @@ module _ (F : ℕ → ℕ → Type 0) where
             (subst (F (row_of r + k)) (sym (get_or-set_same r.pad k v 255 within)) (fits (row_of r + k) b))
         go (inr ne) = subst (F (row_of r + i)) (sym (get_or-set_other r.pad k i v 255 ne)) (f i (omega arith))
 
-    loaded_ready : (k sum b : ℕ) (r : Regs) → SoundRegs r → k < 8 → Loading r k → ReadyWork (loaded K m k sum (set_pad k (K.load m (row_of r + k) b) r))
+    loaded_ready : (k sum b : ℕ) (r : Regs) → SoundRegs r → k < 8 → Loading r k → ReadyWork (after_data K m k sum (set_pad k (K.load m (row_of r + k) b) r))
     loaded_ready k sum b r s room l = go (leb 7 k) refl
       where
         r' : Regs
@@ -86,14 +86,14 @@ module _ (F : ℕ → ℕ → Type 0) where
         go true e = record { regs = λ z i h. more (aligned z) i (omega (arith, leb-true 7 k e)); doing = tt }
         go false e = record { regs = λ z. absurd (true≢false (sym l.partial ∙ z)); doing = record { partial = l.partial; so_far = more } }
 
-    copies_clear : (x y z : ℕ) (r : Regs) → copies K m x y z r ≡ true → r.pf ≡ false
+    copies_clear : (x y z : ℕ) (r : Regs) → copy_begins K m x y z r ≡ true → r.pf ≡ false
     copies_clear x y z r e =
-        not-true r.pf (go (eqb x r.ta1) (eqb y r.ta2) (eqb z (status r)) (not r.pf) (K.copy m (row_of r)) e)
+        not-true r.pf (go (eqb x r.ta1) (eqb y r.ta2) (eqb z (status r)) (not r.pf) (K.copy_rule m (row_of r)) e)
       where
         go : (a b c d g : Bool) → (a && (b && (c && (d && g)))) ≡ true → d ≡ true
         go a b c d g h = (and_parts d g (and_parts c (d && g) (and_parts b (c && (d && g)) (and_parts a (b && (c && (d && g))) h).1).1).1).0
 
-    got_ready : (w : Awaited) (b : ℕ) (r : Regs) → SoundRegs r → SoundAwaited w → ReadyRegs r → ReadyAwaited r w → ReadyWork (got_byte K m w b r)
+    got_ready : (w : Awaited) (b : ℕ) (r : Regs) → SoundRegs r → SoundAwaited w → ReadyRegs r → ReadyAwaited r w → ReadyWork (take_byte K m w b r)
     got_ready command b r s a f h = obey_ready (command_of b) r f
     got_ready load_low b r s a f h = record { regs = λ z. absurd (true≢false (sym h ∙ z)); doing = h }
     got_ready load_high b r s a f h = record {
@@ -103,20 +103,20 @@ module _ (F : ℕ → ℕ → Type 0) where
     got_ready (load_data k sum) b r s a f h = loaded_ready k (crc16 sum (b ∷ [])) b r s a h
     got_ready copy_low b r s a f h = record { regs = f; doing = tt }
     got_ready (copy_high x) b r s a f h = record { regs = f; doing = tt }
-    got_ready (copy_status x y) b r s a f h = go (copies K m x y b r) refl
+    got_ready (copy_status x y) b r s a f h = go (copy_begins K m x y b r) refl
       where
-        go : (t : Bool) → copies K m x y b r ≡ t → ReadyWork (elim t as (λ _. Work) [ true ↦ on (set_aa true r) programming | false ↦ on r idle ])
+        go : (t : Bool) → copy_begins K m x y b r ≡ t → ReadyWork (elim t as (λ _. Work) [ true ↦ on (set_aa true r) programming | false ↦ on r idle ])
         go true e = record { regs = f; doing = copies_clear x y b r e }
         go false e = record { regs = f; doing = tt }
     got_ready read_low b r s a f h = record { regs = f; doing = tt }
     got_ready (read_high x) b r s a f h = record { regs = f; doing = tt }
 
-    came_ready : (w : Awaited) (bs : List Bool) (r : Regs) → SoundRegs r → SoundAwaited w → ReadyRegs r → ReadyAwaited r w → ReadyWork (came K m w bs r)
+    came_ready : (w : Awaited) (bs : List Bool) (r : Regs) → SoundRegs r → SoundAwaited w → ReadyRegs r → ReadyAwaited r w → ReadyWork (collect_bit K m w bs r)
     came_ready w bs r s a f h =
-        elim (full bs) as (λ t. ReadyWork (elim t as (λ _. Work) [ true ↦ got_byte K m w (value bs) r | false ↦ on r (taking w bs) ]))
+        elim (full bs) as (λ t. ReadyWork (elim t as (λ _. Work) [ true ↦ take_byte K m w (value bs) r | false ↦ on r (taking w bs) ]))
         [ true ↦ got_ready w (value bs) r s a f h | false ↦ record { regs = f; doing = h } ]
 
-    take_ready : (b : Bool) (r : Regs) (d : Doing) → SoundRegs r → SoundDoing d → ReadyRegs r → ReadyDoing r d → ReadyWork (take_on K m b r d)
+    take_ready : (b : Bool) (r : Regs) (d : Doing) → SoundRegs r → SoundDoing d → ReadyRegs r → ReadyDoing r d → ReadyWork (take_doing K m b r d)
     take_ready b r idle s a f h = record { regs = f; doing = tt }
     take_ready b r programming s a f h = record { regs = f; doing = h }
     take_ready b r (taking w bs) s a f h = came_ready w (bs ++ (b ∷ [])) r s a.1 f h
@@ -128,10 +128,10 @@ module _ (F : List ℕ → ℕ → ℕ → Type 0) where
   abbrev pub ReadyPad : Padded → Type 0
   ReadyPad p = ReadyWork (F p.bytes) p.work
 
-  pub begun_ready : (p : Padded) → ReadyPad p → ReadyPad (begin_pad p)
+  pub begun_ready : (p : Padded) → ReadyPad p → ReadyPad (select_pad p)
   begun_ready p s = record { regs = s.regs; doing = tt }
 
-  pub woken_ready : (p : Padded) → ReadyPad (wake_pad p)
+  pub woken_ready : (p : Padded) → ReadyPad (power_up_pad p)
   woken_ready p = record { regs = λ e. absurd (true≢false e); doing = tt }
 
   -- of a kind that loads only what F allows
@@ -146,7 +146,7 @@ module _ (F : List ℕ → ℕ → ℕ → Type 0) where
 
   -- what programs has a scratchpad that may stand in the row
   pub burnt_each : (P : List ℕ → Type 0) (p : Padded) (mask : ℕ) → ReadyPad p
-      → (FitTo (F p.bytes) 8 p.work.regs → P (filled p mask)) → P p.bytes → P (burnt p mask)
+      → (FitTo (F p.bytes) 8 p.work.regs → P (filled p mask)) → P p.bytes → P (programmed_bytes p mask)
   burnt_each P p mask s whole none = go p.work.doing s.doing
     where
       go : (d : Doing) → ReadyDoing (F p.bytes) p.work.regs d → P (elim (is_programming d) as (λ _. List ℕ) [ true ↦ filled p mask | false ↦ p.bytes ])

@@ -1,14 +1,14 @@
 -- What holds of a memory from its making on: figures, bytes and registers lie within their bounds.
 use Rattle.std.proofs.Common.{◌≡◌, ℕ, zero, suc, ◌+◌, ◌^◌, ◌<◌, ◌≤◌, Bool, true, false, not, ◌&&◌, eqb, leb, List, [], ◌∷◌, ◌++◌, length, replicate, sym, refl, ap, ◌∙◌, subst, arith, length-append, length-set}
 use Rattle.std.proofs.lemmas.Bool.Decides.{nat_tests}
-use Rattle.bits.specs.Bits.{bit, value, bits_all, full}
-use Rattle.bits.proofs.Choice.{pick}
-use Rattle.bits.proofs.Queues.{double}
-use Rattle.sums.specs.Sums.{crc16, inverted}
-use Rattle.kind.specs.Kinds.{Rules, Lawful, Bytes, at, whole_row}
-use Rattle.kind.proofs.Programming.{program-length, program_bytes, bytes_set}
-use Rattle.memory.specs.Scratchpads.{Regs, fresh, set_pf, set_aa, set_pad, offset_of, row_of, Awaited, command, load_low, load_high, load_data, copy_low, copy_high, copy_status, read_low, read_high, Doing, idle, programming, taking, sending, alternating, Work, on, await, Command, write_scratchpad, read_scratchpad, copy_scratchpad, read_memory, unknown, command_of, obey, loaded, copies, got_byte, came, take_on, is_programming, Padded, burnt, take_pad, ended}
-use Rattle.memory.specs.Memories.{Memory, padded, FreshMemory, wake_memory, begin_memory, take_memory, dwell_memory, burn_memory}
+use Rattle.base.specs.Bits.{bit, value, bits_all, full}
+use Rattle.base.proofs.Choice.{pick}
+use Rattle.base.proofs.Queues.{double}
+use Rattle.base.specs.Crc.{crc16, inverted}
+use Rattle.kinds.specs.Kinds.{Rules, Lawful, Bytes, at, whole_row}
+use Rattle.kinds.proofs.Programming.{program-length, program_bytes, bytes_set}
+use Rattle.memory.specs.Scratchpads.{Regs, fresh, set_pf, set_aa, set_pad, offset_of, row_of, Awaited, command, load_low, load_high, load_data, copy_low, copy_high, copy_status, read_low, read_high, Doing, idle, programming, taking, sending, alternating, Work, on, await, Command, write_scratchpad, read_scratchpad, copy_scratchpad, read_memory, unknown, command_of, run_command, after_data, copy_begins, take_byte, collect_bit, take_doing, is_programming, Padded, programmed_bytes, take_pad, ended}
+use Rattle.memory.specs.Memories.{Memory, padded, FreshMemory, power_up_memory, select_memory, take_memory, dwell_memory, cut_memory}
 
 pub record SoundRegs (r : Regs) : Type 0 where
   pub low : r.ta1 < 256
@@ -66,14 +66,14 @@ aa_set : (r : Regs) (a : Bool) → SoundRegs r → SoundRegs (set_aa a r)
 aa_set r a s = record { low = s.low; high = s.high; ending = s.ending; whole = s.whole; small = s.small }
 
 module _ (K : Rules) (law : Lawful K) (m : List ℕ) (small : Bytes m) where
-  obey_sound : (c : Command) (r : Regs) → SoundRegs r → SoundWork (obey K m c r)
+  obey_sound : (c : Command) (r : Regs) → SoundRegs r → SoundWork (run_command K m c r)
   obey_sound write_scratchpad r s = record { regs = flags r true false s; doing = (omega arith, tt) }
   obey_sound read_scratchpad r s = record { regs = s; doing = tt }
   obey_sound copy_scratchpad r s = record { regs = s; doing = (omega arith, tt) }
   obey_sound read_memory r s = record { regs = s; doing = (omega arith, tt) }
   obey_sound unknown r s = record { regs = s; doing = tt }
 
-  loaded_sound : (k sum : ℕ) (r : Regs) → k < 8 → SoundRegs r → SoundWork (loaded K m k sum r)
+  loaded_sound : (k sum : ℕ) (r : Regs) → k < 8 → SoundRegs r → SoundWork (after_data K m k sum r)
   loaded_sound k sum r h s = go (leb 7 k) refl
     where
       go : (t : Bool) → leb 7 k ≡ t → SoundWork (elim t as (λ _. Work) [
@@ -83,7 +83,7 @@ module _ (K : Rules) (law : Lawful K) (m : List ℕ) (small : Bytes m) where
       go true e = record { regs = pf_set r (r.pf && not (eqb (offset_of r) 0)) s; doing = tt }
       go false e = record { regs = s; doing = (omega arith, grind (arith, nat_tests)) }
 
-  got_sound : (w : Awaited) (b : ℕ) (r : Regs) → b < 256 → SoundAwaited w → SoundRegs r → SoundWork (got_byte K m w b r)
+  got_sound : (w : Awaited) (b : ℕ) (r : Regs) → b < 256 → SoundAwaited w → SoundRegs r → SoundWork (take_byte K m w b r)
   got_sound command b r h a s = obey_sound (command_of b) r s
   got_sound load_low b r h a s =
       record { regs = record { low = h; high = s.high; ending = omega arith; whole = s.whole; small = s.small }; doing = (omega arith, tt) }
@@ -101,7 +101,7 @@ module _ (K : Rules) (law : Lawful K) (m : List ℕ) (small : Bytes m) where
   got_sound copy_low b r h a s = record { regs = s; doing = (omega arith, tt) }
   got_sound (copy_high x) b r h a s = record { regs = s; doing = (omega arith, tt) }
   got_sound (copy_status x y) b r h a s =
-      pick (copies K m x y b r) SoundWork (record { regs = aa_set r true s; doing = tt }) (record { regs = s; doing = tt })
+      pick (copy_begins K m x y b r) SoundWork (record { regs = aa_set r true s; doing = tt }) (record { regs = s; doing = tt })
   got_sound read_low b r h a s = record { regs = s; doing = (omega arith, tt) }
   got_sound (read_high x) b r h a s = record { regs = s; doing = tt }
 
@@ -113,17 +113,17 @@ module _ (K : Rules) (law : Lawful K) (m : List ℕ) (small : Bytes m) where
   value_small [] = omega arith
   value_small (b ∷ bs) = omega (arith, bit_small b, value_small bs, double (length bs))
 
-  came_sound : (w : Awaited) (bs : List Bool) (r : Regs) → length bs ≤ 8 → SoundAwaited w → SoundRegs r → SoundWork (came K m w bs r)
+  came_sound : (w : Awaited) (bs : List Bool) (r : Regs) → length bs ≤ 8 → SoundAwaited w → SoundRegs r → SoundWork (collect_bit K m w bs r)
   came_sound w bs r h a s = go (full bs) refl
     where
-      go : (t : Bool) → full bs ≡ t → SoundWork (elim t as (λ _. Work) [ true ↦ got_byte K m w (value bs) r | false ↦ on r (taking w bs) ])
+      go : (t : Bool) → full bs ≡ t → SoundWork (elim t as (λ _. Work) [ true ↦ take_byte K m w (value bs) r | false ↦ on r (taking w bs) ])
       go true e =
           let eight : length bs ≡ 8 = grind (arith, nat_tests) in
           let small8 : value bs < 256 = subst (λ n. value bs < 2 ^ n) eight (value_small bs) in
           got_sound w (value bs) r small8 a s
       go false e = record { regs = s; doing = (grind (arith, nat_tests), a) }
 
-  take_sound : (b : Bool) (r : Regs) (d : Doing) → SoundRegs r → SoundDoing d → SoundWork (take_on K m b r d)
+  take_sound : (b : Bool) (r : Regs) (d : Doing) → SoundRegs r → SoundDoing d → SoundWork (take_doing K m b r d)
   take_sound b r idle s h = record { regs = s; doing = tt }
   take_sound b r programming s h = record { regs = s; doing = tt }
   take_sound b r (taking w bs) s h =
@@ -142,8 +142,8 @@ pad_taken p b s = record {
 abbrev Within : Rules → List ℕ → Type 0
 Within K m = (length m ≡ K.n) × Bytes m
 
-burnt-within : (p : Padded) (mask : ℕ) → SoundPad p → Within p.rules (burnt p mask)
-burnt-within p mask s =
+programmed_bytes-within : (p : Padded) (mask : ℕ) → SoundPad p → Within p.rules (programmed_bytes p mask)
+programmed_bytes-within p mask s =
     pick (is_programming p.work.doing) (Within p.rules) (
       program-length p.rules.w (row_of p.work.regs) p.work.regs.pad mask p.bytes ∙ s.whole,
       program_bytes p.rules.w (row_of p.work.regs) p.work.regs.pad mask p.bytes s.small,
@@ -157,20 +157,20 @@ ended_sound d h = pick (is_programming d) SoundDoing tt h
 pub taken_sound : (m : Memory) (b : Bool) → SoundMemory m → SoundMemory (take_memory m b)
 taken_sound (padded p) b s = pad_taken p b s
 
-pub begun_sound : (m : Memory) → SoundMemory m → SoundMemory (begin_memory m)
+pub begun_sound : (m : Memory) → SoundMemory m → SoundMemory (select_memory m)
 begun_sound (padded p) s = record { lawful = s.lawful; whole = s.whole; small = s.small; work = record { regs = s.work.regs; doing = (omega arith, tt) } }
 
-pub woken_sound : (m : Memory) → SoundMemory m → SoundMemory (wake_memory m)
+pub woken_sound : (m : Memory) → SoundMemory m → SoundMemory (power_up_memory m)
 woken_sound (padded p) s = record { lawful = s.lawful; whole = s.whole; small = s.small; work = record { regs = fresh_regs; doing = tt } }
 
 pub dwelt_sound : (m : Memory) → SoundMemory m → SoundMemory (dwell_memory m)
 dwelt_sound (padded p) s =
-    let w = burnt-within p whole_row s in
+    let w = programmed_bytes-within p whole_row s in
     record { lawful = s.lawful; whole = w.0; small = w.1; work = record { regs = s.work.regs; doing = ended_sound p.work.doing s.work.doing } }
 
-pub burnt_sound : (m : Memory) (mask : ℕ) → SoundMemory m → SoundMemory (burn_memory m mask)
+pub burnt_sound : (m : Memory) (mask : ℕ) → SoundMemory m → SoundMemory (cut_memory m mask)
 burnt_sound (padded p) mask s =
-    let w = burnt-within p mask s in record { lawful = s.lawful; whole = w.0; small = w.1; work = s.work }
+    let w = programmed_bytes-within p mask s in record { lawful = s.lawful; whole = w.0; small = w.1; work = s.work }
 
 pub made_sound : (m : Memory) → FreshMemory m → SoundMemory m
 made_sound (padded p) f =

@@ -1,3 +1,5 @@
-pub mod Scratchpads
 pub mod Memories
-pub mod Commands
+pub mod MemoryCommands
+pub mod RegistersModel
+pub mod ScratchpadModel
+pub mod Scratchpads

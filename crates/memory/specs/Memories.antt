@@ -1,26 +1,26 @@
 -- The memory behind a chip's number, of any protocol.
 use Rattle.std.specs.Prelude.{◌≡◌, ℕ, Bool, List, length}
-use Rattle.kind.specs.Kinds.{Rules, Lawful, Bytes}
-use Rattle.memory.specs.Scratchpads.{Padded, take_pad, begin_pad, wake_pad, dwell_pad, burn_pad, pull_doing, is_programming, on, fresh, idle}
+use Rattle.kinds.specs.Kinds.{Rules, Lawful, Bytes}
+use Rattle.memory.specs.Scratchpads.{Padded, take_pad, select_pad, power_up_pad, dwell_pad, cut_pad, pull_doing, is_programming, on, fresh, idle}
 
 -- what a protocol settles
 pub record Protocol (S : Type 0) : Type 0 where
-  pub wake : S → S  -- power has come
-  pub begin : S → S  -- the memory phase begins
+  pub power_up : S → S  -- power has come
+  pub select : S → S  -- the memory phase begins
   pub take : S → Bool → S  -- a bit is taken in the memory phase
   pub pull : S → Bool
   pub programming : S → Bool
   pub dwell : S → S
-  pub burn : S → ℕ → S  -- power fails, with a mask
+  pub cut : S → ℕ → S  -- power fails, with a mask
 
 pub data Memory : Type 0 where
   padded : Padded → Memory
 
-abbrev pub wake_memory : Memory → Memory
-wake_memory (padded p) = padded (wake_pad p)
+abbrev pub power_up_memory : Memory → Memory
+power_up_memory (padded p) = padded (power_up_pad p)
 
-abbrev pub begin_memory : Memory → Memory
-begin_memory (padded p) = padded (begin_pad p)
+abbrev pub select_memory : Memory → Memory
+select_memory (padded p) = padded (select_pad p)
 
 abbrev pub take_memory : Memory → Bool → Memory
 take_memory (padded p) b = padded (take_pad p b)
@@ -34,18 +34,18 @@ programming_memory (padded p) = is_programming p.work.doing
 abbrev pub dwell_memory : Memory → Memory
 dwell_memory (padded p) = padded (dwell_pad p)
 
-abbrev pub burn_memory : Memory → ℕ → Memory
-burn_memory (padded p) mask = padded (burn_pad p mask)
+abbrev pub cut_memory : Memory → ℕ → Memory
+cut_memory (padded p) mask = padded (cut_pad p mask)
 
 abbrev pub protocols : Protocol Memory
 protocols = record {
-  wake = wake_memory;
-  begin = begin_memory;
+  power_up = power_up_memory;
+  select = select_memory;
   take = take_memory;
   pull = pull_memory;
   programming = programming_memory;
   dwell = dwell_memory;
-  burn = burn_memory;
+  cut = cut_memory;
 }
 
 -- the readable bytes

@@ -1,8 +1,8 @@
 -- The scratchpad protocol: what a chip of any kind does in the memory phase.
 use Rattle.std.specs.Prelude.{ℕ, ◌+◌, ◌-◌, ◌*◌, ◌%◌, Bool, true, false, cond, not, ◌&&◌, List, [], ◌∷◌, ◌++◌, drop, replicate, ◌==◌, nat_le, slice_set}
-use Rattle.bits.specs.Bits.{value, bits_all, full, front_bit, rest_bits}
-use Rattle.sums.specs.Sums.{crc16, inverted}
-use Rattle.kind.specs.Kinds.{Rules, row_length, whole_row, program}
+use Rattle.base.specs.Bits.{value, bits_all, full, front_bit, rest_bits}
+use Rattle.base.specs.Crc.{crc16, inverted}
+use Rattle.kinds.specs.Kinds.{Rules, row_length, whole_row, program}
 
 -- the registers; only the setters below write them
 pub record Regs : Type 0 where
@@ -97,46 +97,46 @@ command_of b =
     cond (b == 0x0F) write_scratchpad (cond (b == 0xAA) read_scratchpad (cond (b == 0x55) copy_scratchpad (cond (b == 0xF0) read_memory unknown)))
 
 module _ (K : Rules) (m : List ℕ) where
-  abbrev pub obey : Command → Regs → Work
-  obey write_scratchpad r = on (set_pf true (set_aa false r)) (await load_low)
-  obey read_scratchpad r = on r (sending (bits_all (report r ++ inverted (crc16 0 (0xAA ∷ report r)))))
-  obey copy_scratchpad r = on r (await copy_low)
-  obey read_memory r = on r (await read_low)
-  obey unknown r = on r idle
+  abbrev pub run_command : Command → Regs → Work
+  run_command write_scratchpad r = on (set_pf true (set_aa false r)) (await load_low)
+  run_command read_scratchpad r = on r (sending (bits_all (report r ++ inverted (crc16 0 (0xAA ∷ report r)))))
+  run_command copy_scratchpad r = on r (await copy_low)
+  run_command read_memory r = on r (await read_low)
+  run_command unknown r = on r idle
 
   -- after the data byte at offset k, with the sum so far
-  abbrev pub loaded : ℕ → ℕ → Regs → Work
-  loaded k sum r =
+  abbrev pub after_data : ℕ → ℕ → Regs → Work
+  after_data k sum r =
       elim (nat_le 7 k) [
         | true ↦ on (set_pf (r.pf && not (offset_of r == 0)) r) (sending (bits_all (inverted sum)))
         | false ↦ on r (await (load_data (k + 1) sum))
       ]
 
   -- a copy begins: the three bytes equal TA1, TA2 and E/S, PF is clear and the copy rule says yes
-  abbrev pub copies : ℕ → ℕ → ℕ → Regs → Bool
-  copies x y z r = x == r.ta1 && (y == r.ta2 && (z == status r && (not r.pf && K.copy m (row_of r))))
+  abbrev pub copy_begins : ℕ → ℕ → ℕ → Regs → Bool
+  copy_begins x y z r = x == r.ta1 && (y == r.ta2 && (z == status r && (not r.pf && K.copy_rule m (row_of r))))
 
-  abbrev pub got_byte : Awaited → ℕ → Regs → Work
-  got_byte command b r = obey (command_of b) r
-  got_byte load_low b r = on (set_ta1 b r) (await load_high)
-  got_byte load_high b r = on (set_ta2 b r) (await (load_data (offset_of r) (crc16 0 (0x0F ∷ r.ta1 ∷ b ∷ []))))
-  got_byte (load_data k sum) b r = loaded k (crc16 sum (b ∷ [])) (set_pad k (K.load m (row_of r + k) b) r)
-  got_byte copy_low b r = on r (await (copy_high b))
-  got_byte (copy_high x) b r = on r (await (copy_status x b))
-  got_byte (copy_status x y) b r = elim (copies x y b r) [ true ↦ on (set_aa true r) programming | false ↦ on r idle ]
-  got_byte read_low b r = on r (await (read_high b))
-  got_byte (read_high x) b r = on r (sending (bits_all (drop (x + 256 * b) m)))
+  abbrev pub take_byte : Awaited → ℕ → Regs → Work
+  take_byte command b r = run_command (command_of b) r
+  take_byte load_low b r = on (set_ta1 b r) (await load_high)
+  take_byte load_high b r = on (set_ta2 b r) (await (load_data (offset_of r) (crc16 0 (0x0F ∷ r.ta1 ∷ b ∷ []))))
+  take_byte (load_data k sum) b r = after_data k (crc16 sum (b ∷ [])) (set_pad k (K.load m (row_of r + k) b) r)
+  take_byte copy_low b r = on r (await (copy_high b))
+  take_byte (copy_high x) b r = on r (await (copy_status x b))
+  take_byte (copy_status x y) b r = elim (copy_begins x y b r) [ true ↦ on (set_aa true r) programming | false ↦ on r idle ]
+  take_byte read_low b r = on r (await (read_high b))
+  take_byte (read_high x) b r = on r (sending (bits_all (drop (x + 256 * b) m)))
 
   -- eight taken bits are a byte
-  abbrev pub came : Awaited → List Bool → Regs → Work
-  came w bs r = elim (full bs) [ true ↦ got_byte w (value bs) r | false ↦ on r (taking w bs) ]
+  abbrev pub collect_bit : Awaited → List Bool → Regs → Work
+  collect_bit w bs r = elim (full bs) [ true ↦ take_byte w (value bs) r | false ↦ on r (taking w bs) ]
 
-  abbrev pub take_on : Bool → Regs → Doing → Work
-  take_on b r idle = on r idle
-  take_on b r programming = on r programming
-  take_on b r (taking w bs) = came w (bs ++ (b ∷ [])) r
-  take_on b r (sending bs) = on r (sending (rest_bits bs))
-  take_on b r (alternating x) = on r (alternating (not x))
+  abbrev pub take_doing : Bool → Regs → Doing → Work
+  take_doing b r idle = on r idle
+  take_doing b r programming = on r programming
+  take_doing b r (taking w bs) = collect_bit w (bs ++ (b ∷ [])) r
+  take_doing b r (sending bs) = on r (sending (rest_bits bs))
+  take_doing b r (alternating x) = on r (alternating (not x))
 
 abbrev pub pull_doing : Doing → Bool
 pull_doing idle = true
@@ -162,29 +162,29 @@ abbrev pub working : Padded → Work → Padded
 working p w = record { rules = p.rules; bytes = p.bytes; work = w }
 
 -- the bytes once the row has taken the scratchpad through a mask
-abbrev pub burnt : Padded → ℕ → List ℕ
-burnt p mask =
+abbrev pub programmed_bytes : Padded → ℕ → List ℕ
+programmed_bytes p mask =
     elim (is_programming p.work.doing) [
       | true ↦ program p.rules.w (row_of p.work.regs) p.work.regs.pad mask p.bytes
       | false ↦ p.bytes
     ]
 
-abbrev pub wake_pad : Padded → Padded
-wake_pad p = working p (on fresh idle)
+abbrev pub power_up_pad : Padded → Padded
+power_up_pad p = working p (on fresh idle)
 
-abbrev pub begin_pad : Padded → Padded
-begin_pad p = working p (on p.work.regs (await command))
+abbrev pub select_pad : Padded → Padded
+select_pad p = working p (on p.work.regs (await command))
 
 abbrev pub take_pad : Padded → Bool → Padded
-take_pad p b = working p (take_on p.rules p.bytes b p.work.regs p.work.doing)
+take_pad p b = working p (take_doing p.rules p.bytes b p.work.regs p.work.doing)
 
 -- dwell ends a programming
 abbrev pub ended : Doing → Doing
 ended d = elim (is_programming d) [ true ↦ alternating false | false ↦ d ]
 
 abbrev pub dwell_pad : Padded → Padded
-dwell_pad p = record { rules = p.rules; bytes = burnt p whole_row; work = on p.work.regs (ended p.work.doing) }
+dwell_pad p = record { rules = p.rules; bytes = programmed_bytes p whole_row; work = on p.work.regs (ended p.work.doing) }
 
 -- power fails
-abbrev pub burn_pad : Padded → ℕ → Padded
-burn_pad p mask = record { rules = p.rules; bytes = burnt p mask; work = p.work }
+abbrev pub cut_pad : Padded → ℕ → Padded
+cut_pad p mask = record { rules = p.rules; bytes = programmed_bytes p mask; work = p.work }

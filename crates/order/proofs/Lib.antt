@@ -1,9 +1,10 @@
-pub mod Parts
-pub mod Chain
-pub mod Loading
-pub mod Present
 pub mod Absent
-pub mod Truth
+pub mod Chain
+pub mod Comparing
+pub mod Loading
+pub mod Parts
+pub mod Present
 pub mod Quiet
-pub mod Steps
 pub mod Row
+pub mod Steps
+pub mod Truth

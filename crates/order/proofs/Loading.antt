@@ -2,12 +2,12 @@
 use Rattle.std.proofs.Common.{◌≡◌, ℕ, zero, suc, ◌+◌, ◌-◌, ◌*◌, ◌/◌, ◌%◌, ◌<◌, Bool, true, false, not, ◌&&◌, eqb, leb, List, [], ◌∷◌, ◌++◌, length, take, drop, sym, refl, ap, ◌∙◌, subst, ap₂, append_assoc, append-nil, arith, length-set, eq-eqb}
 use Rattle.std.proofs.lemmas.List.{take_more_set, take_all}
 use Rattle.std.proofs.lemmas.Bool.Decides.{nat_tests}
-use Rattle.bits.specs.Bits.{bits_of, bits_all}
-use Rattle.sums.specs.Sums.{poly16, crc16, inverted}
-use Rattle.sums.proofs.Registers.{crc_append}
-use Rattle.kind.specs.Kinds.{Rules, Lawful, at, Bytes}
+use Rattle.base.specs.Bits.{bits_of, bits_all}
+use Rattle.base.specs.Crc.{poly16, crc16, inverted}
+use Rattle.base.proofs.CrcRegister.{crc_append}
+use Rattle.kinds.specs.Kinds.{Rules, Lawful, at, Bytes}
 use Rattle.memory.specs.Scratchpads.{Regs, set_ta1, set_ta2, set_pf, set_aa, set_pad, flag, status, offset_of, row_of, report, load_low, load_high, load_data, command, Work, on, await, sending}
-use Rattle.chip.specs.Steps.{ChipState}
+use Rattle.chip.specs.ChipStates.{ChipState}
 use Rattle.wire.specs.Jobs.{Job, send_bits, send_bytes}
 use Rattle.wire.proofs.Leading.{Leads, leads_then}
 use Rattle.wire.proofs.Alone.{QuietAll, put, talking, one_byte}
@@ -22,9 +22,9 @@ module _ (K : Rules) (m : List ℕ) where
   loads_at a [] = []
   loads_at a (d ∷ ds) = K.load m a d ∷ loads_at (a + 1) ds
 
-  pub loads-length : (a : ℕ) (ds : List ℕ) → length (loads_at a ds) ≡ length ds
-  loads-length a [] = refl
-  loads-length a (d ∷ ds) = ap suc (loads-length (a + 1) ds)
+  pub writes_scratchpad-length : (a : ℕ) (ds : List ℕ) → length (loads_at a ds) ≡ length ds
+  writes_scratchpad-length a [] = refl
+  writes_scratchpad-length a (d ∷ ds) = ap suc (writes_scratchpad-length (a + 1) ds)
 
   pub loads_bytes : Lawful K → Bytes m → (a : ℕ) (ds : List ℕ) → Bytes ds → Bytes (loads_at a ds)
   loads_bytes law small a [] h i = h i
@@ -32,9 +32,9 @@ module _ (K : Rules) (m : List ℕ) where
   loads_bytes law small a (d ∷ ds) h (suc i) = loads_bytes law small (a + 1) ds (λ j. h (suc j)) i
 
   -- bytes that are held already load as they are
-  pub loads-held : Lawful K → length m ≡ K.n → (a : ℕ) (ds : List ℕ) → ((i : ℕ) → i < length ds → at ds i ≡ at m (a + i)) → loads_at a ds ≡ ds
-  loads-held law whole a [] h = refl
-  loads-held law whole a (d ∷ ds) h = ap₂ (λ x xs. x ∷ xs) first (loads-held law whole (a + 1) ds rest)
+  pub writes_scratchpad-held : Lawful K → length m ≡ K.n → (a : ℕ) (ds : List ℕ) → ((i : ℕ) → i < length ds → at ds i ≡ at m (a + i)) → loads_at a ds ≡ ds
+  writes_scratchpad-held law whole a [] h = refl
+  writes_scratchpad-held law whole a (d ∷ ds) h = ap₂ (λ x xs. x ∷ xs) first (writes_scratchpad-held law whole (a + 1) ds rest)
     where
       first : K.load m a d ≡ d
       first =

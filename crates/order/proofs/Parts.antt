@@ -1,13 +1,13 @@
 -- An order from each of its exchanges on.
 use Rattle.std.proofs.Common.{ℕ, ◌/◌, ◌%◌, Bool, true, false, List, [], ◌∷◌, take, drop, Some, None, Option}
-use Rattle.sums.specs.Sums.{crc16, inverted}
+use Rattle.base.specs.Crc.{crc16, inverted}
 use Rattle.rig.specs.Rigs.{RigState}
 use Rattle.wire.specs.Jobs.{Job, ret, run}
 use Rattle.wire.specs.Exchanges.{Exchange, answer, refuse, pulses}
-use Rattle.wire.specs.declared.fault.Why.TheVariants.{Garbled}
-use Rattle.reading.specs.Readings.{closes}
-use Rattle.writing.specs.Differences.{first_difference}
-use Rattle.writing.specs.Writings.{checks, whole_status}
+use Rattle.wire.specs.declared.exchange_fault.ExchangeError.TheVariants.{Garbled}
+use Rattle.reading.specs.Readings.{closes_by_reset}
+use Rattle.order.specs.Differences.{first_difference}
+use Rattle.order.specs.Writings.{verifies_scratchpad, whole_status}
 use Rattle.order.specs.Orders.{Ending, failed, judged, copies_if, ordering, Verdict, refuses, with_verdict}
 
 -- what is said of the sum after 0Fh, and of address and status, sum and scratchpad after AAh
@@ -22,8 +22,8 @@ module _ (row : ℕ) (l : List ℕ) where
   abbrev pub target : Option ℕ
   target = first_difference (take 3 l) (row % 256 ∷ row / 256 ∷ whole_status ∷ [])
 
-  abbrev pub summed : Option ℕ
-  summed = first_difference (take 2 (drop 11 l)) (inverted (crc16 (crc16 0 (0xAA ∷ [])) (take 11 l)))
+  abbrev pub summed_bytes : Option ℕ
+  summed_bytes = first_difference (take 2 (drop 11 l)) (inverted (crc16 (crc16 0 (0xAA ∷ [])) (take 11 l)))
 
 -- the sum of what 0Fh sends
 abbrev pub sent_sum : ℕ → List ℕ → ℕ
@@ -34,17 +34,17 @@ module _ (new : List ℕ) where
   ends programmed found _ = ret (judged programmed (first_difference new found))
 
   abbrev pub closing : Bool → List ℕ → Job Ending
-  closing programmed found = pulses (closes 5) (ends programmed found) failed
+  closing programmed found = pulses (closes_by_reset 5) (ends programmed found) failed
 
 module _ (x row : ℕ) (new : List ℕ) where
   abbrev pub copying : List ℕ → Job Ending
   copying loaded = copies_if x row new (first_difference new loaded)
 
   abbrev pub told : List ℕ → Job Ending
-  told l = pulses (judged2 (target row l) (summed row l) (take 8 (drop 3 l))) copying failed
+  told l = pulses (judged2 (target row l) (summed_bytes row l) (take 8 (drop 3 l))) copying failed
 
   abbrev pub checking : Unit {0} → Job Ending
-  checking _ = pulses (checks x row) copying failed
+  checking _ = pulses (verifies_scratchpad x row) copying failed
 
   abbrev pub next : List ℕ → Job Ending
   next l = pulses (judged1 (first_difference l (inverted (sent_sum row new)))) checking failed

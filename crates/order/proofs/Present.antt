@@ -1,33 +1,33 @@
 -- An order whose tag has power, on a line with no fuse: it answers held exactly when the row is then as ordered.
 use Rattle.std.proofs.Common.{◌≡◌, ℕ, zero, suc, ◌+◌, ◌/◌, ◌%◌, ◌^◌, ◌<◌, ◌≤◌, Bool, true, false, not, ◌&&◌, eqb, List, [], ◌∷◌, ◌++◌, map, length, get_or, take, drop, Some, None, Option, sym, refl, ap, ◌∙◌, subst, ap₂, append-nil, arith, length-append, get_or-drop, eq-eqb, ne_eqb}
 use lib.Seq.{take-append_seam, drop-append_seam}
-use Rattle.bits.specs.Bits.{bits_all, value, byte_of}
-use Rattle.sums.specs.Sums.{crc16, inverted}
-use Rattle.kind.specs.Kinds.{Rules, Lawful, at, Bytes, blend, program, whole_row}
-use Rattle.kind.proofs.Blending.{blend-same}
-use Rattle.kind.proofs.Programming.{program_bytes, program_each}
-use Rattle.memory.specs.Scratchpads.{Regs, set_aa, status, row_of, Work, Doing, on, idle, programming, sending, alternating, await, command, copy_low, copy_high, copy_status, Awaited, got_byte, copies as accepts, is_programming}
+use Rattle.base.specs.Bits.{bits_all, value, byte_of}
+use Rattle.base.specs.Crc.{crc16, inverted}
+use Rattle.kinds.specs.Kinds.{Rules, Lawful, at, Bytes, blend, program, whole_row}
+use Rattle.kinds.proofs.Blending.{blend-same}
+use Rattle.kinds.proofs.Programming.{program_bytes, program_each}
+use Rattle.memory.specs.Scratchpads.{Regs, set_aa, status, row_of, Work, Doing, on, idle, programming, sending, alternating, await, command, copy_low, copy_high, copy_status, Awaited, take_byte, copy_begins as accepts, is_programming}
 use Rattle.memory.specs.Memories.{padded, kind_in}
 use Rattle.chip.specs.Chips.{Phase, selected}
 use Rattle.chip.specs.Chips.{on as under}
-use Rattle.chip.specs.Steps.{ChipState, bytes_of, reset_chip, opened_by}
-use Rattle.line.specs.Lines.{busy}
-use Rattle.rig.specs.Rigs.{resets, dwells}
+use Rattle.chip.specs.ChipStates.{ChipState, bytes_of, reset_chip, opened_by}
+use Rattle.line.specs.Lines.{any_busy}
+use Rattle.rig.specs.Rigs.{reset_pulse, dwell_pulse}
 use Rattle.wire.specs.Jobs.{Job, ret, step, send_bytes, read_bytes}
 use Rattle.wire.specs.Exchanges.{answer, pulses}
-use Rattle.wire.specs.declared.fault.Why.TheVariants.{NoPresence}
+use Rattle.wire.specs.declared.exchange_fault.ExchangeError.TheVariants.{NoPresence}
 use Rattle.wire.specs.Laws.{NoneHas, first_bytes, row_in}
 use Rattle.wire.proofs.Leading.{Leads, leads_then, leads_none, WideAll, after_opening}
 use Rattle.wire.proofs.Alone.{QuietAll, talking, busy_put, one_byte, bytes_read, dwell_one, read-idle, read-alternating}
 use Rattle.wire.proofs.One.{opened_none, opened_wide, opened_again, others_quiet, presence_mid, open_one}
 use Rattle.reading.proofs.Found.{found_row, closed_by}
-use Rattle.writing.specs.Differences.{differ_from, first_difference}
-use Rattle.writing.specs.Writings.{whole_status, programmed_byte}
+use Rattle.order.specs.Differences.{differ_from, first_difference}
+use Rattle.order.specs.Writings.{whole_status, programmed_byte}
 use Rattle.order.specs.Orders.{Ending, held, refusal, refusal_at, failed, judged, finds_and_closes, copies_if, ordering}
 use Rattle.order.specs.Laws.{bytes_with, lets_copy}
-use Rattle.order.proofs.Parts.{judged1, judged2, target, summed, sent_sum, ends, closing, copying, told, checking, next}
-use Rattle.writing.proofs.Comparing.{first_self, first_equal, first_differs}
-use Rattle.order.proofs.Loading.{sum_more, loads_at, loads-length, loads_bytes, loads-held, filled, ready, begun, Took, took, reports, status_whole, with, sent}
+use Rattle.order.proofs.Parts.{judged1, judged2, target, summed_bytes, sent_sum, ends, closing, copying, told, checking, next}
+use Rattle.order.proofs.Comparing.{first_self, first_equal, first_differs}
+use Rattle.order.proofs.Loading.{sum_more, loads_at, writes_scratchpad-length, loads_bytes, writes_scratchpad-held, filled, ready, begun, Took, took, reports, status_whole, with, sent}
 
 abbrev pub IsHeld : Ending → Type 0
 IsHeld (held programmed) = Unit {0}
@@ -110,8 +110,8 @@ bytes_mid x [] vs c n e = ap (λ t. elim t as (λ _. List ℕ) [ true ↦ bytes_
 bytes_mid x (u ∷ us) vs c n e =
     ap (λ t. elim t as (λ _. List ℕ) [ true ↦ bytes_of u | false ↦ bytes_with x (us ++ (c ∷ vs)) ]) (ne_eqb u.number x n.0) ∙ bytes_mid x us vs c n.1 e
 
-pub lets_mid : (x row : ℕ) (us vs : List ChipState) (c : ChipState) → NoneHas x us → c.number ≡ x → lets_copy x row (us ++ (c ∷ vs)) ≡ (kind_in c.memory).copy (bytes_of c) row
-lets_mid x row [] vs c n e = ap (λ t. elim t as (λ _. Bool) [ true ↦ (kind_in c.memory).copy (bytes_of c) row | false ↦ lets_copy x row vs ]) (eq-eqb c.number x e)
+pub lets_mid : (x row : ℕ) (us vs : List ChipState) (c : ChipState) → NoneHas x us → c.number ≡ x → lets_copy x row (us ++ (c ∷ vs)) ≡ (kind_in c.memory).copy_rule (bytes_of c) row
+lets_mid x row [] vs c n e = ap (λ t. elim t as (λ _. Bool) [ true ↦ (kind_in c.memory).copy_rule (bytes_of c) row | false ↦ lets_copy x row vs ]) (eq-eqb c.number x e)
 lets_mid x row (u ∷ us) vs c n e =
     ap (λ t. elim t as (λ _. Bool) [ true ↦ (kind_in u.memory).copy (bytes_of u) row | false ↦ lets_copy x row (us ++ (c ∷ vs)) ]) (ne_eqb u.number x n.0) ∙ lets_mid x row us vs c n.1 e
 
@@ -138,19 +138,19 @@ module _ (x row : ℕ) (new : List ℕ) (hx : x < 2 ^ 64) (al : row % 8 ≡ 0) (
   abbrev at1 : List ℕ → Work → List ChipState
   at1 m w = with U V qu qv K x m true w
 
-  calm : (m : List ℕ) (w : Work) → is_programming w.doing ≡ false → busy (at1 m w) ≡ false
+  calm : (m : List ℕ) (w : Work) → is_programming w.doing ≡ false → any_busy (at1 m w) ≡ false
   calm m w e = busy_put U V (talking U V qu qv K x m true w) qu qv ∙ e
 
   -- the opening of a later exchange
   reopen : {B : Type 0} (k nope : Job B) (m : List ℕ) (w : Work) → is_programming w.doing ≡ false
-      → Leads (step resets (after_opening x k nope)) (at1 m w) k (at1 m (on w.regs (await command)))
+      → Leads (step reset_pulse (after_opening x k nope)) (at1 m w) k (at1 m (on w.regs (await command)))
   reopen k nope m w e =
-      subst (λ l. Leads (step resets (after_opening x k nope)) (at1 m w) k l)
+      subst (λ l. Leads (step reset_pulse (after_opening x k nope)) (at1 m w) k l)
       (ap₂ (λ a b. a ++ (talking U V qu qv K x m true (on w.regs (await command)) ∷ b)) (opened_again x us nu) (opened_again x vs nv))
       (open_one x hx U V (opened_wide x us wu) (opened_wide x vs wv) k nope true selected (record { rules = K; bytes = m; work = w }) (calm m w e))
 
   byte : {A : Type 0} (m : List ℕ) (b : ℕ) (rest : List ℕ) (k : Job A) (r : Regs) (w : Awaited) → b < 256
-      → Leads (send_bytes (b ∷ rest) k) (at1 m (on r (await w))) (send_bytes rest k) (at1 m (got_byte K m w b r))
+      → Leads (send_bytes (b ∷ rest) k) (at1 m (on r (await w))) (send_bytes rest k) (at1 m (take_byte K m w b r))
   byte m b rest k r w h = one_byte U V qu qv K x m true b (bits_all rest) k r w h
 
   -- the last two exchanges, whatever came before
@@ -206,13 +206,13 @@ module _ (x row : ℕ) (new : List ℕ) (hx : x < 2 ^ 64) (al : row % 8 ≡ 0) (
     loaded = loads_at K m row new
 
     loaded-eight : length loaded ≡ 8
-    loaded-eight = loads-length K m row new ∙ len
+    loaded-eight = writes_scratchpad-length K m row new ∙ len
 
     -- 3. the copy: programmed where the copy rule says yes, and idle elsewhere
     module _ (r : Regs) (t : Took K m row new r) where
-      accepted : accepts K m (row % 256) (row / 256) whole_status r ≡ K.copy m (row_of r)
+      accepted : accepts K m (row % 256) (row / 256) whole_status r ≡ K.copy_rule m (row_of r)
       accepted =
-          λ i. eqb_low i && (eqb_high i && (eqb_status i && (not (t.clear i) && K.copy m (row_of r))))
+          λ i. eqb_low i && (eqb_high i && (eqb_status i && (not (t.clear i) && K.copy_rule m (row_of r))))
         where
           eqb_low : eqb (row % 256) r.ta1 ≡ true
           eqb_low = eq-eqb (row % 256) r.ta1 (sym t.low)
@@ -224,12 +224,12 @@ module _ (x row : ℕ) (new : List ℕ) (hx : x < 2 ^ 64) (al : row % 8 ≡ 0) (
           eqb_status = eq-eqb 7 (status r) (sym (status_whole K m row new r t))
 
       abbrev dwelt : Job Ending
-      dwelt = step dwells (λ _. read_bytes 1 (λ got. finds_and_closes x row new (eqb (get_or got 0 0) programmed_byte)))
+      dwelt = step dwell_pulse (λ _. read_bytes 1 (λ got. finds_and_closes x row new (eqb (get_or got 0 0) programmed_byte)))
 
       abbrev taken : Bool → Work
       taken b = elim b [ true ↦ on (set_aa true r) programming | false ↦ on r idle ]
 
-      copy_sent : (d : Doing) → is_programming d ≡ false → Leads (copies_if x row new None) (at1 m (on r d)) dwelt (at1 m (taken (K.copy m (row_of r))))
+      copy_sent : (d : Doing) → is_programming d ≡ false → Leads (copies_if x row new None) (at1 m (on r d)) dwelt (at1 m (taken (K.copy_rule m (row_of r))))
       copy_sent d e =
           leads_then (reopen (send_bytes (0x55 ∷ row % 256 ∷ row / 256 ∷ whole_status ∷ []) dwelt) (failed NoPresence 3) m (on r d) e)
           (leads_then (byte m 0x55 (row % 256 ∷ row / 256 ∷ whole_status ∷ []) dwelt r command (omega arith))
@@ -238,47 +238,47 @@ module _ (x row : ℕ) (new : List ℕ) (hx : x < 2 ^ 64) (al : row % 8 ≡ 0) (
           (subst (λ b. Leads (send_bytes (whole_status ∷ []) dwelt) (at1 m (on r (await (copy_status (row % 256) (row / 256))))) dwelt (at1 m (taken b))) accepted
           (byte m whole_status [] dwelt r (copy_status (row % 256) (row / 256)) (omega arith))))))
 
-      copied : (d : Doing) → is_programming d ≡ false → Ends (copies_if x row new None) (at1 m (on r d)) x row new m (K.copy m row)
-      copied d e = go (K.copy m (row_of r)) refl
+      copied : (d : Doing) → is_programming d ≡ false → Ends (copies_if x row new None) (at1 m (on r d)) x row new m (K.copy_rule m row)
+      copied d e = go (K.copy_rule m (row_of r)) refl
         where
           after : List ℕ → Job Ending
           after got = finds_and_closes x row new (eqb (get_or got 0 0) programmed_byte)
 
-          burnt : List ℕ
-          burnt = program K.w (row_of r) r.pad whole_row m
+          programmed_bytes : List ℕ
+          programmed_bytes = program K.w (row_of r) r.pad whole_row m
 
           row_is : row_of r ≡ row
           row_is = let a = t.low in let b = t.high in omega (arith, a, b, al)
 
-          lets : K.copy m row ≡ K.copy m (row_of r)
-          lets = ap (K.copy m) (sym row_is)
+          lets : K.copy_rule m row ≡ K.copy_rule m (row_of r)
+          lets = ap (K.copy_rule m) (sym row_is)
 
           -- where the row held what was ordered, the scratchpad has the same, so programming changes nothing
-          burnt_same : new ≡ row_in m row → new ≡ row_in burnt row
-          burnt_same u = u ∙ sym (row_same row burnt m (program_each (λ a b. b ≡ at m a) K.w (row_of r) r.pad whole_row m (λ a. refl) fits))
+          burnt_same : new ≡ row_in m row → new ≡ row_in programmed_bytes row
+          burnt_same u = u ∙ sym (row_same row programmed_bytes m (program_each (λ a b. b ≡ at m a) K.w (row_of r) r.pad whole_row m (λ a. refl) fits))
             where
               held_at : (j : ℕ) → j < 8 → at new j ≡ at m (row + j)
               held_at j h = ap (λ l. at l j) u ∙ row_at m row j h
 
               pad_is : r.pad ≡ new
-              pad_is = t.pad ∙ loads-held K m law whole row new (λ j h. held_at j (let e = len in omega (arith, h, e)))
+              pad_is = t.pad ∙ writes_scratchpad-held K m law whole row new (λ j h. held_at j (let e = len in omega (arith, h, e)))
 
               fits : (i : ℕ) → i < 8 → blend (byte_of whole_row i) (at r.pad i) (at m (row_of r + i)) ≡ at m (row_of r + i)
               fits i h =
                   ap (λ v. blend (byte_of whole_row i) v (at m (row_of r + i))) (ap (λ l. at l i) pad_is ∙ held_at i h ∙ ap (λ k. at m (k + i)) (sym row_is))
                   ∙ blend-same (byte_of whole_row i) (at m (row_of r + i)) (hm (row_of r + i))
 
-          go : (b : Bool) → K.copy m (row_of r) ≡ b → Ends (copies_if x row new None) (at1 m (on r d)) x row new m (K.copy m row)
+          go : (b : Bool) → K.copy_rule m (row_of r) ≡ b → Ends (copies_if x row new None) (at1 m (on r d)) x row new m (K.copy_rule m row)
           go true q =
               then_ends (subst (λ b. Leads (copies_if x row new None) (at1 m (on r d)) dwelt (at1 m (taken b))) q (copy_sent d e))
               (then_ends (dwell_one U V qu qv (λ _. read_bytes 1 after) (talking U V qu qv K x m true (on (set_aa true r) programming)))
-              (then_ends (read-alternating U V qu qv K x burnt true 8 false (λ bs. after (value bs ∷ [])) (set_aa true r))
-              (concluding m true (K.copy m row) burnt (on (set_aa true r) (alternating false)) burnt_same (sym (lets ∙ q)) refl (program_bytes K.w (row_of r) r.pad whole_row m hm))))
+              (then_ends (read-alternating U V qu qv K x programmed_bytes true 8 false (λ bs. after (value bs ∷ [])) (set_aa true r))
+              (concluding m true (K.copy_rule m row) programmed_bytes (on (set_aa true r) (alternating false)) burnt_same (sym (lets ∙ q)) refl (program_bytes K.w (row_of r) r.pad whole_row m hm))))
           go false q =
               then_ends (subst (λ b. Leads (copies_if x row new None) (at1 m (on r d)) dwelt (at1 m (taken b))) q (copy_sent d e))
               (then_ends (dwell_one U V qu qv (λ _. read_bytes 1 after) (talking U V qu qv K x m true (on r idle)))
               (then_ends (read-idle U V qu qv K x m true 8 (λ bs. after (value bs ∷ [])) r)
-              (concluding m false (K.copy m row) m (on r idle) (λ u. u) (sym (lets ∙ q)) refl hm)))
+              (concluding m false (K.copy_rule m row) m (on r idle) (λ u. u) (sym (lets ∙ q)) refl hm)))
 
       -- 2. the scratchpad is told, and copied where it is as ordered
       abbrev echo : List ℕ
@@ -301,7 +301,7 @@ module _ (x row : ℕ) (new : List ℕ) (hx : x < 2 ^ 64) (al : row % 8 ≡ 0) (
           ap₂ (λ a b. first_difference (take 2 a) (inverted (crc16 (crc16 0 (0xAA ∷ [])) (row % 256 ∷ row / 256 ∷ 7 ∷ b)))) behind front
           ∙ ap (λ s. first_difference (inverted sum) (inverted s)) (sum_more 0 0xAA echo) ∙ first_self (inverted sum)
 
-      judged_right : judged2 (target row got) (summed row got) (take 8 (drop 3 got)) ≡ answer loaded
+      judged_right : judged2 (target row got) (summed_bytes row got) (take 8 (drop 3 got)) ≡ answer loaded
       judged_right = λ i. judged2 (first_self (row % 256 ∷ row / 256 ∷ whole_status ∷ []) i) (right_sum i) (front i)
 
       got_bytes : Bytes got
@@ -328,15 +328,15 @@ module _ (x row : ℕ) (new : List ℕ) (hx : x < 2 ^ 64) (al : row % 8 ≡ 0) (
       not_held : (i : ℕ) → first_difference new loaded ≡ Some i → new ≡ row_in m row → ⊥
       not_held i q z =
           first_differs new loaded i q
-          (sym (loads-held K m law whole row new (λ j h. ap (λ l. at l j) z ∙ row_at m row j (let e = len in omega (arith, h, e)))))
+          (sym (writes_scratchpad-held K m law whole row new (λ j h. ap (λ l. at l j) z ∙ row_at m row j (let e = len in omega (arith, h, e)))))
 
       there : bytes_with x (at1 m (on r (sending []))) ≡ m
       there = bytes_mid x U V (talking U V qu qv K x m true (on r (sending []))) (opened_none x us nu) refl
 
-      checked : (d : Doing) → is_programming d ≡ false → Ends (checking x row new tt) (at1 m (on r d)) x row new m (K.copy m row)
+      checked : (d : Doing) → is_programming d ≡ false → Ends (checking x row new tt) (at1 m (on r d)) x row new m (K.copy_rule m row)
       checked d e = then_ends (echoed d e) (go (first_difference new loaded) refl)
         where
-          go : (o : Option ℕ) → first_difference new loaded ≡ o → Ends (copies_if x row new o) (at1 m (on r (sending []))) x row new m (K.copy m row)
+          go : (o : Option ℕ) → first_difference new loaded ≡ o → Ends (copies_if x row new o) (at1 m (on r (sending []))) x row new m (K.copy_rule m row)
           go None q = copied (sending []) refl
           go (Some i) q = record {
             answer = refusal_at 7 2 i;
@@ -350,8 +350,8 @@ module _ (x row : ℕ) (new : List ℕ) (hx : x < 2 ^ 64) (al : row % 8 ≡ 0) (
 
     -- 1. the row is sent
     pub order_ends : (work : Work) → length work.regs.pad ≡ 8 → (rc : Bool) (p : Phase)
-        → busy (us ++ (record { number = x; live = under rc p; memory = padded (record { rules = K; bytes = m; work = work }) } ∷ vs)) ≡ false
-        → Ends (ordering x row new) (us ++ (record { number = x; live = under rc p; memory = padded (record { rules = K; bytes = m; work = work }) } ∷ vs)) x row new m (K.copy m row)
+        → any_busy (us ++ (record { number = x; live = under rc p; memory = padded (record { rules = K; bytes = m; work = work }) } ∷ vs)) ≡ false
+        → Ends (ordering x row new) (us ++ (record { number = x; live = under rc p; memory = padded (record { rules = K; bytes = m; work = work }) } ∷ vs)) x row new m (K.copy_rule m row)
     order_ends work eight rc p b =
         then_ends
         (open_one x hx us vs wu wv (send_bytes (0x0F ∷ row % 256 ∷ row / 256 ∷ []) (send_bytes new (read_bytes 2 (next x row new)))) (failed NoPresence 1) rc p (record { rules = K; bytes = m; work = work }) b)

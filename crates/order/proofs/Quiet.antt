@@ -1,31 +1,31 @@
 -- An order is refused with 3 at its first pulse or never; and one refused with 7 changes no byte.
 use Rattle.std.proofs.Common.{◌≡◌, ℕ, ◌/◌, ◌%◌, Bool, true, false, eqb, List, [], ◌∷◌, ◌++◌, map, get_or, take, drop, Some, None, Option, sym, refl, ap, subst, arith}
 use Rattle.std.proofs.lemmas.Simd.{map-map}
-use Rattle.bits.specs.Bits.{bits_of, bits_all, value}
-use Rattle.bits.proofs.Choice.{pick}
-use Rattle.sums.specs.Sums.{inverted}
-use Rattle.memory.specs.Scratchpads.{Work, copies as accepts, working}
+use Rattle.base.specs.Bits.{bits_of, bits_all, value}
+use Rattle.base.proofs.Choice.{pick}
+use Rattle.base.specs.Crc.{inverted}
+use Rattle.memory.specs.Scratchpads.{Work, copy_begins as accepts, working}
 use Rattle.memory.specs.Memories.{Memory, padded}
 use Rattle.chip.specs.Chips.{selected}
 use Rattle.chip.specs.Chips.{on as under}
-use Rattle.chip.specs.Steps.{ChipState, bytes_of, reset_chip, dwell_chip, takes}
+use Rattle.chip.specs.ChipStates.{ChipState, bytes_of, reset_chip, dwell_chip, takes}
 use Rattle.chip.proofs.Select.{Hears, listening, takes-idle, takes-off}
-use Rattle.line.specs.Lines.{busy}
-use Rattle.rig.specs.Rigs.{RigState, dwells}
+use Rattle.line.specs.Lines.{any_busy}
+use Rattle.rig.specs.Rigs.{RigState, dwell_pulse}
 use Rattle.wire.specs.Jobs.{Job, step, Got, done, line_busy, run, send_bits, send_bytes, read_bytes}
 use Rattle.wire.specs.Exchanges.{answer, read as listens, pulses}
-use Rattle.wire.specs.declared.fault.Why.{Why}
-use Rattle.wire.specs.declared.fault.Why.TheVariants.{NoPresence, Garbled}
+use Rattle.wire.specs.declared.exchange_fault.ExchangeError.{ExchangeError}
+use Rattle.wire.specs.declared.exchange_fault.ExchangeError.TheVariants.{NoPresence, Garbled}
 use Rattle.wire.proofs.Leading.{send-append}
 use Rattle.wire.proofs.Power.{first_refused}
 use Rattle.wire.proofs.Calm.{Leaves, GotAll, leaves, leaves_run, DwellFree, Gets, bytes_unless, Still, still_free, dwell_free, Unrefused, Anyhow, Free, Freed, freed_unrefused, freed_run, Ended, unrefused_run, opening_at, freed_opening, BegunAll, begun_hear, begun_calm, command_hears, command_calm, CalmChip, CalmAll, calm_busy, calm_send, calm_bytes, heard_to}
-use Rattle.reading.specs.Readings.{finds, closes}
+use Rattle.reading.specs.Readings.{reads_memory, closes_by_reset}
 use Rattle.reading.proofs.Quiet.{still_closes, un_close, un_find}
-use Rattle.writing.specs.Differences.{first_difference}
-use Rattle.writing.specs.Writings.{loads, checks, copies, whole_status, programmed_byte}
+use Rattle.order.specs.Differences.{first_difference}
+use Rattle.order.specs.Writings.{writes_scratchpad, verifies_scratchpad, copies_scratchpad, whole_status, programmed_byte}
 use Rattle.order.specs.Orders.{Ending, held, refusal, refusal_at, failed, judged, finds_and_closes, copies_if, ordering, Verdict, refuses, refuses_at, verdict_of}
 use Rattle.order.specs.Laws.{LeavesFree, BusyUnchanged, Uncopied}
-use Rattle.order.proofs.Parts.{judged1, judged2, target, summed, sent_sum, ends, closing, copying, told, checking, next, call_at}
+use Rattle.order.proofs.Parts.{judged1, judged2, target, summed_bytes, sent_sum, ends, closing, copying, told, checking, next, call_at}
 
 -- 1. the bits of a copy: every chip hears them, and after the dwell none is programming
 module _ (a b c : ℕ) where
@@ -153,7 +153,7 @@ module _ (x row : ℕ) (new : List ℕ) where
   abbrev pub copied : List ChipState → List ChipState
   copied l = map (takes sent) (begun l)
 
-  module _ (D : List ChipState → Type 0) (dwelling : (l : List ChipState) → busy l ≡ false → D (copied l)) where
+  module _ (D : List ChipState → Type 0) (dwelling : (l : List ChipState) → any_busy l ≡ false → D (copied l)) where
     un_concludes : (programmed : Bool) (l : List ChipState) → CalmAll l → Freed D (finds_and_closes x row new programmed) l
     un_concludes programmed l h =
         un_find D x row 4 (closing new programmed) failed (λ xs. un_close D 5 (ends new programmed xs) failed (λ _ b. b) (λ _ b. b)) (λ _ b. b) l (calm_busy l h)
@@ -161,22 +161,22 @@ module _ (x row : ℕ) (new : List ℕ) where
     abbrev said : List ℕ → Job Ending
     said got = finds_and_closes x row new (eqb (get_or got 0 0) programmed_byte)
 
-    un_copies : (o : Option ℕ) (l : List ChipState) → busy l ≡ false → Freed D (copies_if x row new o) l
+    un_copies : (o : Option ℕ) (l : List ChipState) → any_busy l ≡ false → Freed D (copies_if x row new o) l
     un_copies (Some i) l e = e
     un_copies None l e =
-        opening_at D x (send_bytes (0x55 ∷ row % 256 ∷ row / 256 ∷ whole_status ∷ []) (step dwells (λ _. read_bytes 1 said))) (failed NoPresence 3) l e (λ _ b. b)
-        (λ o. heard_to D Free sent (step dwells (λ _. read_bytes 1 said)) (begun l) (begun_hear sent (copy_heard (row % 256) (row / 256) whole_status) (begun l) o)
+        opening_at D x (send_bytes (0x55 ∷ row % 256 ∷ row / 256 ∷ whole_status ∷ []) (step dwell_pulse (λ _. read_bytes 1 said))) (failed NoPresence 3) l e (λ _ b. b)
+        (λ o. heard_to D Free sent (step dwell_pulse (λ _. read_bytes 1 said)) (begun l) (begun_hear sent (copy_heard (row % 256) (row / 256) whole_status) (begun l) o)
         (dwelling l e, calm_bytes D 1 said (map dwell_chip (copied l)) (subst CalmAll (sym (map-map dwell_chip (takes sent) (begun l))) (dwelt_calm (row % 256) (row / 256) whole_status (begun l) o)) (λ got. un_concludes (eqb (get_or got 0 0) programmed_byte))))
 
     un_told : (got : List ℕ) (l : List ChipState) → CalmAll l → Freed D (told x row new got) l
-    un_told got l h = go (target row got) (summed row got)
+    un_told got l h = go (target row got) (summed_bytes row got)
       where
         go : (a b : Option ℕ) → Freed D (pulses (judged2 a b (take 8 (drop 3 got))) (copying x row new) failed) l
         go (Some i) b = calm_busy l h
         go None (Some i) = calm_busy l h
         go None None = un_copies (first_difference new (take 8 (drop 3 got))) l (calm_busy l h)
 
-    un_checks : (l : List ChipState) → busy l ≡ false → Freed D (checking x row new tt) l
+    un_checks : (l : List ChipState) → any_busy l ≡ false → Freed D (checking x row new tt) l
     un_checks l e =
         freed_opening D x (send_bytes (0xAA ∷ []) (read_bytes 13 (told x row new))) (failed NoPresence 2) l e (λ _ b. b)
         (λ l' o. heard_to D Free (bits_of 8 0xAA) (read_bytes 13 (told x row new)) l' (command_hears 0xAA l' o)
@@ -189,7 +189,7 @@ module _ (x row : ℕ) (new : List ℕ) where
         go None = un_checks l (calm_busy l h)
         go (Some i) = calm_busy l h
 
-    pub freed : (l : List ChipState) → busy l ≡ false → Freed D (ordering x row new) l
+    pub freed : (l : List ChipState) → any_busy l ≡ false → Freed D (ordering x row new) l
     freed l e =
         freed_opening D x (send_bytes (0x0F ∷ row % 256 ∷ row / 256 ∷ []) (send_bytes new (read_bytes 2 (next x row new)))) (failed NoPresence 1) l e (λ _ b. b)
         (λ l' o. subst (λ j. Freed D j l') (sym (send-append (bits_of 8 0x0F) (bits_all (row % 256 ∷ row / 256 ∷ [])) (send_bytes new (read_bytes 2 (next x row new)))))
@@ -197,10 +197,10 @@ module _ (x row : ℕ) (new : List ℕ) where
         (calm_send D (bits_all (row % 256 ∷ row / 256 ∷ [])) (send_bytes new (read_bytes 2 (next x row new))) (map (takes (bits_of 8 0x0F)) l') (command_calm 0x0F (λ K m r. tt) l' o)
         (λ l'' h. calm_send D (bits_all new) (read_bytes 2 (next x row new)) l'' h (λ l''' h'. calm_bytes D 2 (next x row new) l''' h' un_next)))))
 
-  pub freed_anyhow : (l : List ChipState) → busy l ≡ false → Freed Anyhow (ordering x row new) l
+  pub freed_anyhow : (l : List ChipState) → any_busy l ≡ false → Freed Anyhow (ordering x row new) l
   freed_anyhow l e = freed Anyhow (λ _ _. tt) l e
 
-  pub unrefused : (l : List ChipState) → busy l ≡ false → Unrefused (ordering x row new) l
+  pub unrefused : (l : List ChipState) → any_busy l ≡ false → Unrefused (ordering x row new) l
   unrefused l e = freed_unrefused Anyhow (ordering x row new) l (freed_anyhow l e)
 
 -- 3. so refusal 3 leaves all unchanged
@@ -214,7 +214,7 @@ NotSeven (held programmed) = Unit {0}
 NotSeven (refusal k e) = Unit {0}
 NotSeven (refusal_at k e i) = k ≡ 7 → ⊥
 
-failed_not : (w : Why) (e : ℕ) → Leaves NotThree (failed w e)
+failed_not : (w : ExchangeError) (e : ℕ) → Leaves NotThree (failed w e)
 failed_not NoPresence e = λ q. omega arith
 failed_not Garbled e = λ q. omega arith
 
@@ -231,10 +231,10 @@ module _ (x row : ℕ) (new : List ℕ) where
   not_copies (Some i) = tt
   not_copies None =
       leaves NotThree (finds_and_closes x row new) failed
-      (λ p. leaves NotThree (closing new p) failed (λ f. leaves NotThree (ends new p f) failed (λ _. judged_not p (first_difference new f)) failed_not (closes 5)) failed_not (finds 4 x row)) failed_not (copies x row)
+      (λ p. leaves NotThree (closing new p) failed (λ f. leaves NotThree (ends new p f) failed (λ _. judged_not p (first_difference new f)) failed_not (closes_by_reset 5)) failed_not (reads_memory 4 x row)) failed_not (copies_scratchpad x row)
 
   never_three : Leaves NotThree (ordering x row new)
-  never_three = leaves NotThree (checking x row new) failed (λ _. leaves NotThree (copying x row new) failed (λ l. not_copies (first_difference new l)) failed_not (checks x row)) failed_not (loads x row new)
+  never_three = leaves NotThree (checking x row new) failed (λ _. leaves NotThree (copying x row new) failed (λ l. not_copies (first_difference new l)) failed_not (verifies_scratchpad x row)) failed_not (writes_scratchpad x row new)
 
   -- 4. and no dwell leads to refusal 7
   abbrev IsSeven : Ending → Type 0
@@ -252,20 +252,20 @@ module _ (x row : ℕ) (new : List ℕ) where
 
   never_concludes : (p : Bool) → Leaves Never (finds_and_closes x row new p)
   never_concludes p =
-      leaves Never (closing new p) failed (λ f. leaves Never (ends new p f) failed (λ _. seven_not (judged p (first_difference new f)) (judged-eight p (first_difference new f))) (λ w e s. s) (closes 5)) (λ w e s. s) (finds 4 x row)
+      leaves Never (closing new p) failed (λ f. leaves Never (ends new p f) failed (λ _. seven_not (judged p (first_difference new f)) (judged-eight p (first_difference new f))) (λ w e s. s) (closes_by_reset 5)) (λ w e s. s) (reads_memory 4 x row)
 
   free_concludes : (p : Bool) → DwellFree IsSeven (finds_and_closes x row new p)
   free_concludes p =
-      still_free IsSeven (closing new p) failed (λ f. still_free IsSeven (ends new p f) failed (λ _. tt) (λ w e. tt) (closes 5) (still_closes 5)) (λ w e. tt) (finds 4 x row) (λ xs. tt)
+      still_free IsSeven (closing new p) failed (λ f. still_free IsSeven (ends new p f) failed (λ _. tt) (λ w e. tt) (closes_by_reset 5) (still_closes 5)) (λ w e. tt) (reads_memory 4 x row) (λ xs. tt)
 
   free_copies : (o : Option ℕ) → DwellFree IsSeven (copies_if x row new o)
   free_copies (Some i) = tt
   free_copies None =
-      dwell_free IsSeven (finds_and_closes x row new) failed free_concludes (λ w e. tt) (copies x row)
+      dwell_free IsSeven (finds_and_closes x row new) failed free_concludes (λ w e. tt) (copies_scratchpad x row)
       (leaves Never (finds_and_closes x row new) failed never_concludes (λ w e s. s) (listens 1 (λ got. answer (eqb (get_or got 0 0) programmed_byte))))
 
-  still_checks : (l : List ℕ) → Still (judged2 (target row l) (summed row l) (take 8 (drop 3 l)))
-  still_checks l = go (target row l) (summed row l)
+  still_checks : (l : List ℕ) → Still (judged2 (target row l) (summed_bytes row l) (take 8 (drop 3 l)))
+  still_checks l = go (target row l) (summed_bytes row l)
     where
       go : (a b : Option ℕ) → Still (judged2 a b (take 8 (drop 3 l)))
       go (Some i) b = tt
@@ -278,14 +278,14 @@ module _ (x row : ℕ) (new : List ℕ) where
 
   pub free_order : DwellFree IsSeven (ordering x row new)
   free_order =
-      still_free IsSeven (checking x row new) failed (λ _. still_free IsSeven (copying x row new) failed (λ l. free_copies (first_difference new l)) (λ w e. tt) (checks x row) still_checks) (λ w e. tt)
-      (loads x row new) (λ l. still_loads (first_difference l (inverted (sent_sum row new))))
+      still_free IsSeven (checking x row new) failed (λ _. still_free IsSeven (copying x row new) failed (λ l. free_copies (first_difference new l)) (λ w e. tt) (verifies_scratchpad x row) still_checks) (λ w e. tt)
+      (writes_scratchpad x row new) (λ l. still_loads (first_difference l (inverted (sent_sum row new))))
 
 -- what the caller is told
 pub busy_unchanged : BusyUnchanged
 busy_unchanged r x row e n new q = go (eqb (row % 8) 0) q
   where
-    begun : (t : Bool) → busy r.line ≡ t → (run 0 (ordering x row new) r).got ≡ line_busy → ((run 0 (ordering x row new) r).rig ≡ r) × (busy r.line ≡ true)
+    begun : (t : Bool) → any_busy r.line ≡ t → (run 0 (ordering x row new) r).got ≡ line_busy → ((run 0 (ordering x row new) r).rig ≡ r) × (any_busy r.line ≡ true)
     begun true b g = (ap (λ w. w.rig) (first_refused 0 (ordering x row new) r tt b), b)
     begun false b g = absurd (subst Ended g (unrefused_run 0 (ordering x row new) r.line r.fuse (unrefused x row new r.line b)))
 
@@ -295,9 +295,9 @@ busy_unchanged r x row e n new q = go (eqb (row % 8) 0) q
     said (done (refusal_at i f j)) k h q = let z : ◌≡◌ {A = ℕ} 0 1 = cc in absurd (omega arith)
     said line_busy k h q = refl
 
-    go : (t : Bool) → (call_at x row new r t).1 ≡ refuses 3 e n → ((call_at x row new r t).0 ≡ r) × (busy r.line ≡ true)
+    go : (t : Bool) → (call_at x row new r t).1 ≡ refuses 3 e n → ((call_at x row new r t).0 ≡ r) × (any_busy r.line ≡ true)
     go true q =
-        begun (busy r.line) refl (said (run 0 (ordering x row new) r).got (run 0 (ordering x row new) r).steps (leaves_run NotThree 0 (ordering x row new) r (never_three x row new)) q)
+        begun (any_busy r.line) refl (said (run 0 (ordering x row new) r).got (run 0 (ordering x row new) r).steps (leaves_run NotThree 0 (ordering x row new) r (never_three x row new)) q)
     go false q = let z : ◌≡◌ {A = ℕ} 3 4 = cc in absurd (omega arith)
 
 pub leaves_free : LeavesFree

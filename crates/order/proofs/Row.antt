@@ -2,20 +2,20 @@
 use Rattle.std.proofs.Common.{◌≡◌, ℕ, ◌+◌, ◌/◌, ◌%◌, ◌^◌, ◌<◌, Bool, true, false, not, ◌&&◌, leb, ltb, eqb, List, [], ◌∷◌, ◌++◌, map, sym, refl, ap, ◌∙◌, subst, arith}
 use Rattle.std.proofs.lemmas.Bool.{true≢false, or_parts, and_parts, eqb-true}
 use Rattle.std.proofs.lemmas.Bool.Decides.{nat_tests}
-use Rattle.bits.specs.Bits.{bits_of, value}
-use Rattle.bits.specs.Widths.{value_bits}
-use Rattle.kind.specs.Kinds.{at, program, whole_row}
-use Rattle.kind.proofs.Programming.{program_each}
-use Rattle.memory.specs.Scratchpads.{set_aa, status, row_of, Work, on, idle, programming, copies as accepts, Padded, working}
-use Rattle.memory.specs.Memories.{Memory, padded, bytes_in, burn_memory}
+use Rattle.base.specs.Bits.{bits_of, value}
+use Rattle.base.specs.Widths.{value_bits}
+use Rattle.kinds.specs.Kinds.{at, program, whole_row}
+use Rattle.kinds.proofs.Programming.{program_each}
+use Rattle.memory.specs.Scratchpads.{set_aa, status, row_of, Work, on, idle, programming, copy_begins as accepts, Padded, working}
+use Rattle.memory.specs.Memories.{Memory, padded, bytes_in, cut_memory}
 use Rattle.chip.specs.Chips.{Live, off, selected}
 use Rattle.chip.specs.Chips.{on as under}
-use Rattle.chip.specs.Steps.{ChipState, bytes_of, is_busy, take_bit, reset_chip, dwell_chip, cut_chip, takes, opened_as}
+use Rattle.chip.specs.ChipStates.{ChipState, bytes_of, is_busy, take_bit, reset_chip, dwell_chip, cut_chip, takes, opened_as}
 use Rattle.chip.proofs.Keeps.{number-taken, bytes_taken, bytes_reset, bytes_dwell_idle, bytes_dwell_busy, bytes_cut_idle, bytes_cut_busy}
 use Rattle.chip.proofs.Select.{listening, takes-off, takes-idle, select-takes}
 use Rattle.chip.proofs.Sound.{met_sounds}
-use Rattle.line.specs.Lines.{pull, busy}
-use Rattle.rig.specs.Rigs.{RigState, Pulse, resets, slots, dwells, act}
+use Rattle.line.specs.Lines.{pull, any_busy}
+use Rattle.rig.specs.Rigs.{RigState, Pulse, reset_pulse, slot_pulse, dwell_pulse, line_after}
 use Rattle.rig.proofs.Unpowered.{busy_line}
 use Rattle.wire.specs.Jobs.{Ran, run}
 use Rattle.wire.specs.Laws.{Along}
@@ -23,7 +23,7 @@ use Rattle.wire.proofs.Leading.{WideAll}
 use Rattle.wire.proofs.Power.{first_refused}
 use Rattle.wire.proofs.Selected.{sound_wide}
 use Rattle.wire.proofs.Calm.{Ready, Free, meets_run}
-use Rattle.writing.specs.Writings.{whole_status}
+use Rattle.order.specs.Writings.{whole_status}
 use Rattle.order.specs.Orders.{Ending, ordering}
 use Rattle.order.specs.Laws.{SameBeside, RowOnly, OnlyTheRow}
 use Rattle.order.proofs.Parts.{call_at}
@@ -71,18 +71,18 @@ module _ (x row : ℕ) (new : List ℕ) where
 
   -- a chip that programs has the number, and programs the row
   abbrev Aimed : ChipState → Type 0
-  Aimed c = is_busy c ≡ true → (c.number ≡ x) × ((mask : ℕ) → SameBeside row (bytes_of c) (bytes_in (burn_memory c.memory mask)))
+  Aimed c = is_busy c ≡ true → (c.number ≡ x) × ((mask : ℕ) → SameBeside row (bytes_of c) (bytes_in (cut_memory c.memory mask)))
 
   abbrev AimedAll : List ChipState → Type 0
   AimedAll [] = Unit {0}
   AimedAll (c ∷ cs) = Aimed c × AimedAll cs
 
-  free_aimed : (l : List ChipState) → busy l ≡ false → AimedAll l
+  free_aimed : (l : List ChipState) → any_busy l ≡ false → AimedAll l
   free_aimed [] b = tt
   free_aimed (c ∷ cs) b = ((λ h. absurd (true≢false (sym h ∙ (or_parts _ _ b).0))), free_aimed cs (or_parts _ _ b).1)
 
   -- so a dwell and a cut change that row alone
-  burnt_only : (mask : ℕ) (c d : ChipState) → d.number ≡ c.number → (is_busy c ≡ false → bytes_of d ≡ bytes_of c) → (is_busy c ≡ true → bytes_of d ≡ bytes_in (burn_memory c.memory mask)) → Aimed c → Only c d
+  burnt_only : (mask : ℕ) (c d : ChipState) → d.number ≡ c.number → (is_busy c ≡ false → bytes_of d ≡ bytes_of c) → (is_busy c ≡ true → bytes_of d ≡ bytes_in (cut_memory c.memory mask)) → Aimed c → Only c d
   burnt_only mask c d n rests burns aimed = go (is_busy c) refl
     where
       go : (t : Bool) → is_busy c ≡ t → Only c d
@@ -97,24 +97,24 @@ module _ (x row : ℕ) (new : List ℕ) where
   cut_only mask [] h = tt
   cut_only mask (c ∷ cs) h = (burnt_only mask c (cut_chip mask c) refl (bytes_cut_idle mask c) (bytes_cut_busy mask c) h.0, cut_only mask cs h.1)
 
-  act_only : (p : Pulse) (l : List ChipState) → AimedAll l → Along Only l (act p l)
-  act_only resets l h = along_map reset_chip (λ c. only_same c (reset_chip c) refl (bytes_reset c)) l
-  act_only (slots b) l h = along_map (take_bit (b && pull l)) (λ c. only_same c (take_bit (b && pull l) c) (number-taken (b && pull l) c) (bytes_taken (b && pull l) c)) l
-  act_only dwells l h = dwell_only l h
+  act_only : (p : Pulse) (l : List ChipState) → AimedAll l → Along Only l (line_after p l)
+  act_only reset_pulse l h = along_map reset_chip (λ c. only_same c (reset_chip c) refl (bytes_reset c)) l
+  act_only (slot_pulse b) l h = along_map (take_bit (b && pull l)) (λ c. only_same c (take_bit (b && pull l) c) (number-taken (b && pull l) c) (bytes_taken (b && pull l) c)) l
+  act_only dwell_pulse l h = dwell_only l h
 
-  wide_act : (p : Pulse) (l : List ChipState) → WideAll l → WideAll (act p l)
-  wide_act resets l w = wide_map reset_chip (λ c. refl) l w
-  wide_act (slots b) l w = wide_map (take_bit (b && pull l)) (number-taken (b && pull l)) l w
-  wide_act dwells l w = wide_map dwell_chip (λ c. refl) l w
+  wide_act : (p : Pulse) (l : List ChipState) → WideAll l → WideAll (line_after p l)
+  wide_act reset_pulse l w = wide_map reset_chip (λ c. refl) l w
+  wide_act (slot_pulse b) l w = wide_map (take_bit (b && pull l)) (number-taken (b && pull l)) l w
+  wide_act dwell_pulse l w = wide_map dwell_chip (λ c. refl) l w
 
   -- a line at a dwell
   abbrev AtDwell : List ChipState → Type 0
   AtDwell l = WideAll l → AimedAll l
 
   ready_aimed : (p : Pulse) (l : List ChipState) → Ready AtDwell p l → WideAll l → AimedAll l
-  ready_aimed resets l h w = free_aimed l h
-  ready_aimed (slots b) l h w = free_aimed l h
-  ready_aimed dwells l h w = h w
+  ready_aimed reset_pulse l h w = free_aimed l h
+  ready_aimed (slot_pulse b) l h w = free_aimed l h
+  ready_aimed dwell_pulse l h w = h w
 
   module _ (hx : x < 2 ^ 64) (al : row % 8 ≡ 0) (hr : row < 65536) where
     -- a tag that listens programs by a copy only if its address is the row's
@@ -133,7 +133,7 @@ module _ (x row : ℕ) (new : List ℕ) where
         go true q = λ _. (e, λ mask. subst (λ k. SameBeside row p.bytes (program p.rules.w k p.work.regs.pad mask p.bytes)) (sym its_row) (program_beside p.rules.w row p.work.regs.pad mask p.bytes))
           where
             rest : Bool
-            rest = eqb (value (bits_of 8 whole_status)) (status p.work.regs) && (not p.work.regs.pf && p.rules.copy p.bytes (row_of p.work.regs))
+            rest = eqb (value (bits_of 8 whole_status)) (status p.work.regs) && (not p.work.regs.pf && p.rules.copy_rule p.bytes (row_of p.work.regs))
 
             both : (eqb low p.work.regs.ta1 ≡ true) × ((eqb high p.work.regs.ta2 && rest) ≡ true)
             both = and_parts (eqb low p.work.regs.ta1) (eqb high p.work.regs.ta2 && rest) q
@@ -156,7 +156,7 @@ module _ (x row : ℕ) (new : List ℕ) where
         go n m (under rc p) false q = subst Aimed (sym (takes-idle n m (sent x row new) false)) (λ b. absurd (true≢false (sym b)))
         go n (padded p) (under rc ph) true q = copy_aimed n p (eqb-true n x q)
 
-    copied_aimed : (l : List ChipState) → busy l ≡ false → AtDwell (copied x row new l)
+    copied_aimed : (l : List ChipState) → any_busy l ≡ false → AtDwell (copied x row new l)
     copied_aimed [] b w = tt
     copied_aimed (c ∷ cs) b w = (
       chip_aimed c (or_parts _ _ b).0
@@ -164,10 +164,10 @@ module _ (x row : ℕ) (new : List ℕ) where
       copied_aimed cs (or_parts _ _ b).1 w.1,
     )
 
-    went_only : (r : RigState) → WideAll r.line → busy r.line ≡ false → Along Only r.line (run 0 (ordering x row new) r).rig.line
+    went_only : (r : RigState) → WideAll r.line → any_busy r.line ≡ false → Along Only r.line (run 0 (ordering x row new) r).rig.line
     went_only r w b =
         (meets_run AtDwell Free (λ l. WideAll l × Along Only r.line l) busy_line
-        (λ p l h s. (wide_act p l s.0, along_then r.line l (act p l) s.1 (act_only p l (ready_aimed p l h s.0))))
+        (λ p l h s. (wide_act p l s.0, along_then r.line l (line_after p l) s.1 (act_only p l (ready_aimed p l h s.0))))
         (λ p m l h s. (wide_map (cut_chip m) (λ c. refl) l s.0, along_then r.line l (map (cut_chip m) l) s.1 (cut_only m l (ready_aimed p l h s.0))))
         0 (ordering x row new) r.line r.fuse (freed x row new AtDwell copied_aimed r.line b) (w, along_same r.line)).1.1
 
@@ -177,10 +177,10 @@ only_the_row r x row new met hx hr = go (eqb (row % 8) 0) refl
     wide : WideAll r.line
     wide = sound_wide r.line (met_sounds r.line met)
 
-    begun : row % 8 ≡ 0 → (b : Bool) → busy r.line ≡ b → Along (RowOnly x row) r.line (run 0 (ordering x row new) r).rig.line
+    begun : row % 8 ≡ 0 → (b : Bool) → any_busy r.line ≡ b → Along (RowOnly x row) r.line (run 0 (ordering x row new) r).rig.line
     begun al true b = subst (λ (w : Ran Ending). Along (RowOnly x row) r.line w.rig.line) (sym (first_refused 0 (ordering x row new) r tt b)) (along_same x row new r.line)
     begun al false b = went_only x row new hx al hr r wide b
 
     go : (t : Bool) → eqb (row % 8) 0 ≡ t → Along (RowOnly x row) r.line (call_at x row new r t).0.line
-    go true q = begun (eqb-true (row % 8) 0 q) (busy r.line) refl
+    go true q = begun (eqb-true (row % 8) 0 q) (any_busy r.line) refl
     go false q = along_same x row new r.line

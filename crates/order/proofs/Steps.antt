@@ -1,18 +1,18 @@
 -- How many steps an order takes.
 use Rattle.std.proofs.Common.{◌≡◌, ℕ, ◌+◌, ◌/◌, ◌%◌, ◌≤◌, Bool, true, false, cond, eqb, ◌⊎◌, List, [], ◌∷◌, length, get_or, take, drop, Some, None, Option, sym, refl, ◌∙◌, subst, inl, inr, arith}
-use Rattle.bits.specs.Bits.{bits_all}
-use Rattle.bits.proofs.Queues.{length_all}
-use Rattle.sums.specs.Sums.{inverted}
-use Rattle.rig.specs.Rigs.{RigState, resets, dwells}
+use Rattle.base.specs.Bits.{bits_all}
+use Rattle.base.proofs.Queues.{length_all}
+use Rattle.base.specs.Crc.{inverted}
+use Rattle.rig.specs.Rigs.{RigState, reset_pulse, dwell_pulse}
 use Rattle.wire.specs.Jobs.{Job, step, Got, done, line_busy, run, send_bytes, read_bytes}
 use Rattle.wire.specs.Exchanges.{answer, refuse, pulses}
-use Rattle.wire.specs.declared.fault.Why.TheVariants.{NoPresence}
+use Rattle.wire.specs.declared.exchange_fault.ExchangeError.TheVariants.{NoPresence}
 use Rattle.wire.proofs.Counts.{LeavesAt, GotAt, leaves_at, at-step, at-send, at_bytes, at-opening}
-use Rattle.writing.specs.Differences.{first_difference}
-use Rattle.writing.specs.Writings.{whole_status, programmed_byte}
+use Rattle.order.specs.Differences.{first_difference}
+use Rattle.order.specs.Writings.{whole_status, programmed_byte}
 use Rattle.order.specs.Orders.{Ending, held, refusal, refusal_at, failed, judged, finds_and_closes, copies_if, ordering, holds, verdict_of}
 use Rattle.order.specs.Laws.{steps_of, OrderSteps}
-use Rattle.order.proofs.Parts.{judged1, judged2, target, summed, sent_sum, ends, closing, copying, told, checking, next, call_at}
+use Rattle.order.proofs.Parts.{judged1, judged2, target, summed_bytes, sent_sum, ends, closing, copying, told, checking, next, call_at}
 
 abbrev pub Takes : ℕ → Ending → Type 0
 Takes k (held programmed) = k ≡ 638
@@ -21,7 +21,7 @@ Takes k (refusal_at n e i) = ((n ≡ 7) × (e ≡ 2) × (k ≡ 362)) ⊎ ((n ≡
 
 module _ (x row : ℕ) (new : List ℕ) where
   at-closing : (p : Bool) (f : List ℕ) → LeavesAt Takes 637 (closing new p f)
-  at-closing p f = at-step Takes resets 637 (λ b. pulses (cond b (answer tt) (refuse NoPresence 5)) (ends new p f) failed) (omega arith) go
+  at-closing p f = at-step Takes reset_pulse 637 (λ b. pulses (cond b (answer tt) (refuse NoPresence 5)) (ends new p f) failed) (omega arith) go
     where
       last : (o : Option ℕ) → Takes 638 (judged p o)
       last None = refl
@@ -43,13 +43,13 @@ module _ (x row : ℕ) (new : List ℕ) where
   at_copies : (o : Option ℕ) → LeavesAt Takes 362 (copies_if x row new o)
   at_copies (Some i) = inl (refl, refl, refl)
   at_copies None =
-      at-opening Takes x 362 (send_bytes (0x55 ∷ row % 256 ∷ row / 256 ∷ whole_status ∷ []) (step dwells (λ _. read_bytes 1 said))) (failed NoPresence 3) (omega arith)
-      (at-send Takes (bits_all (0x55 ∷ row % 256 ∷ row / 256 ∷ whole_status ∷ [])) 435 (step dwells (λ _. read_bytes 1 said)) (omega arith)
-      (at-step Takes dwells 467 (λ _. read_bytes 1 said) (omega arith) (λ _. at_bytes Takes 1 468 said (omega arith) (λ got. at_concludes (eqb (get_or got 0 0) programmed_byte)))))
+      at-opening Takes x 362 (send_bytes (0x55 ∷ row % 256 ∷ row / 256 ∷ whole_status ∷ []) (step dwell_pulse (λ _. read_bytes 1 said))) (failed NoPresence 3) (omega arith)
+      (at-send Takes (bits_all (0x55 ∷ row % 256 ∷ row / 256 ∷ whole_status ∷ [])) 435 (step dwell_pulse (λ _. read_bytes 1 said)) (omega arith)
+      (at-step Takes dwell_pulse 467 (λ _. read_bytes 1 said) (omega arith) (λ _. at_bytes Takes 1 468 said (omega arith) (λ got. at_concludes (eqb (get_or got 0 0) programmed_byte)))))
       (omega arith)
 
   at_told : (l : List ℕ) → LeavesAt Takes 362 (told x row new l)
-  at_told l = go (target row l) (summed row l)
+  at_told l = go (target row l) (summed_bytes row l)
     where
       go : (a b : Option ℕ) → LeavesAt Takes 362 (pulses (judged2 a b (take 8 (drop 3 l))) (copying x row new) failed)
       go (Some i) b = omega arith

@@ -1,14 +1,14 @@
 -- The verdict is the truth.
 use Rattle.std.proofs.Common.{◌≡◌, ℕ, ◌%◌, ◌^◌, ◌<◌, Bool, true, false, eqb, ◌↔◌, List, ◌∷◌, ◌++◌, length, sym, refl, ap, ◌∙◌, subst, inl, inr, eq-eqb}
 use Rattle.std.proofs.lemmas.Bool.{true≢false, eqb-true}
-use Rattle.kind.specs.Kinds.{Bytes}
+use Rattle.kinds.specs.Kinds.{Bytes}
 use Rattle.memory.specs.Memories.{Memory, padded, bytes_in, kind_in}
 use Rattle.memory.proofs.Sound.{SoundMemory}
 use Rattle.chip.specs.Chips.{Live, off, powered}
 use Rattle.chip.specs.Chips.{on as under}
-use Rattle.chip.specs.Steps.{ChipState, bytes_of}
+use Rattle.chip.specs.ChipStates.{ChipState, bytes_of}
 use Rattle.chip.proofs.Sound.{SoundAll, met_sounds}
-use Rattle.line.specs.Lines.{busy}
+use Rattle.line.specs.Lines.{any_busy}
 use Rattle.rig.specs.Rigs.{RigState}
 use Rattle.wire.specs.Jobs.{Got, done, line_busy, Ran, run, good}
 use Rattle.wire.specs.Laws.{powered_in, NoneHas, Single, row_in}
@@ -19,7 +19,7 @@ use Rattle.wire.proofs.Counts.{GotAt}
 use Rattle.wire.proofs.Power.{GotGood, first_refused, kept_free, good_free, good_kept}
 use Rattle.wire.proofs.Selected.{sound_wide, sound_mid, powered_one}
 use Rattle.order.specs.Orders.{Ending, held, refusal, refusal_at, ordering, verdict_of, order_call}
-use Rattle.order.specs.Laws.{Held, Began, Kept, bytes_with, lets_copy, Outcome, Tells, OrderTells}
+use Rattle.order.specs.Laws.{Held, OrderBegan, Kept, bytes_with, lets_copy, Outcome, Tells, OrderTells}
 use Rattle.order.proofs.Parts.{call_at}
 use Rattle.order.proofs.Present.{IsHeld, Placed, Ends, bytes_mid, lets_mid, order_ends}
 use Rattle.reading.specs.Laws.{finding}
@@ -29,23 +29,23 @@ use Rattle.order.proofs.Quiet.{freed_anyhow}
 use Rattle.order.proofs.Steps.{Takes, counts}
 
 -- a busy line refuses the first pulse
-busy-refused : (x row : ℕ) (new : List ℕ) (r : RigState) → busy r.line ≡ true → run 0 (ordering x row new) r ≡ record { rig = r; steps = 0; got = line_busy }
-busy-refused x row new r q = first_refused 0 (ordering x row new) r tt q
+any_busy-refused : (x row : ℕ) (new : List ℕ) (r : RigState) → any_busy r.line ≡ true → run 0 (ordering x row new) r ≡ record { rig = r; steps = 0; got = line_busy }
+any_busy-refused x row new r q = first_refused 0 (ordering x row new) r tt q
 
 -- an order that began has a row, and its line was not busy
-began_row : (x row : ℕ) (new : List ℕ) (r : RigState) → Began (order_call x row new r).1 → eqb (row % 8) 0 ≡ true
+began_row : (x row : ℕ) (new : List ℕ) (r : RigState) → OrderBegan (order_call x row new r).1 → eqb (row % 8) 0 ≡ true
 began_row x row new r b = go (eqb (row % 8) 0) b
   where
-    go : (t : Bool) → Began (call_at x row new r t).1 → t ≡ true
+    go : (t : Bool) → OrderBegan (call_at x row new r t).1 → t ≡ true
     go true h = refl
     go false h = absurd (h.1 refl)
 
-began_free : (x row : ℕ) (new : List ℕ) (r : RigState) → eqb (row % 8) 0 ≡ true → Began (order_call x row new r).1 → busy r.line ≡ false
-began_free x row new r e b = go (busy r.line) refl (subst (λ t. Began (call_at x row new r t).1) e b)
+began_free : (x row : ℕ) (new : List ℕ) (r : RigState) → eqb (row % 8) 0 ≡ true → OrderBegan (order_call x row new r).1 → any_busy r.line ≡ false
+began_free x row new r e b = go (any_busy r.line) refl (subst (λ t. OrderBegan (call_at x row new r t).1) e b)
   where
-    go : (t : Bool) → busy r.line ≡ t → Began (call_at x row new r true).1 → busy r.line ≡ false
+    go : (t : Bool) → any_busy r.line ≡ t → OrderBegan (call_at x row new r true).1 → any_busy r.line ≡ false
     go false q h = q
-    go true q h = absurd ((subst (λ (w : Ran Ending). Began (verdict_of w.got w.steps)) (busy-refused x row new r q) h).0 refl)
+    go true q h = absurd ((subst (λ (w : Ran Ending). OrderBegan (verdict_of w.got w.steps)) (any_busy-refused x row new r q) h).0 refl)
 
 -- held, as the run and as the caller are told
 module _ (n : ℕ) where
@@ -74,13 +74,13 @@ outcome_of new lets found n g a q p t = subst (λ h. Outcome new lets found (ver
 module _ (x row : ℕ) (new : List ℕ) (hx : x < 2 ^ 64) (al : row % 8 ≡ 0) (hr : row < 65536) (len : length new ≡ 8) (small : Bytes new) where
   -- with power and no fuse
   present : (us vs : List ChipState) → NoneHas x us → NoneHas x vs → WideAll us → WideAll vs → (n : ℕ) (l : Live) (m : Memory) → n ≡ x → powered l ≡ true → SoundMemory m
-      → busy (us ++ (record { number = n; live = l; memory = m } ∷ vs)) ≡ false → Ends (ordering x row new) (us ++ (record { number = n; live = l; memory = m } ∷ vs)) x row new (bytes_in m) ((kind_in m).copy (bytes_in m) row)
+      → any_busy (us ++ (record { number = n; live = l; memory = m } ∷ vs)) ≡ false → Ends (ordering x row new) (us ++ (record { number = n; live = l; memory = m } ∷ vs)) x row new (bytes_in m) ((kind_in m).copy (bytes_in m) row)
   present us vs nu nv wu wv n off m e p s b = absurd (true≢false (sym p))
   present us vs nu nv wu wv n (under rc ph) (padded q) e p s b =
-      subst (λ k. busy (us ++ (record { number = k; live = under rc ph; memory = padded q } ∷ vs)) ≡ false → Ends (ordering x row new) (us ++ (record { number = k; live = under rc ph; memory = padded q } ∷ vs)) x row new q.bytes (q.rules.copy q.bytes row)) (sym e)
+      subst (λ k. any_busy (us ++ (record { number = k; live = under rc ph; memory = padded q } ∷ vs)) ≡ false → Ends (ordering x row new) (us ++ (record { number = k; live = under rc ph; memory = padded q } ∷ vs)) x row new q.bytes (q.rules.copy_rule q.bytes row)) (sym e)
       (order_ends x row new hx al hr len small us vs nu nv wu wv q.rules s.lawful q.bytes s.whole s.small q.work s.work.regs.whole rc ph) b
 
-  module _ (r : RigState) (s : SoundAll r.line) (b : busy r.line ≡ false) (o : Single x r.line) where
+  module _ (r : RigState) (s : SoundAll r.line) (b : any_busy r.line ≡ false) (o : Single x r.line) where
     abbrev went : Ran Ending
     went = run 0 (ordering x row new) r
 
@@ -94,7 +94,7 @@ module _ (x row : ℕ) (new : List ℕ) (hx : x < 2 ^ 64) (al : row % 8 ≡ 0) (
         (subst (λ m. Ends (ordering x row new) (o.before ++ (o.tag ∷ o.behind)) x row new m (lets_copy x row (o.before ++ (o.tag ∷ o.behind)))) (sym (bytes_mid x o.before o.behind o.tag o.none_before o.is))
         (subst (Ends (ordering x row new) (o.before ++ (o.tag ∷ o.behind)) x row new (bytes_of o.tag)) (sym (lets_mid x row o.before o.behind o.tag o.none_before o.is))
         (present o.before o.behind o.none_before o.none_behind (sound_wide o.before parts.0) (sound_wide o.behind parts.2) o.tag.number o.tag.live o.tag.memory o.is
-        (powered_one x o.before o.behind o.tag o.none_before o.none_behind (ap (powered_in x) (sym o.so) ∙ u)) parts.1.memory (ap busy (sym o.so) ∙ b))))
+        (powered_one x o.before o.behind o.tag o.none_before o.none_behind (ap (powered_in x) (sym o.so) ∙ u)) parts.1.memory (ap any_busy (sym o.so) ∙ b))))
 
     -- where the tag kept power, the run is the one without a fuse
     as-free : Kept x row new r → (e : Ends (ordering x row new) r.line x row new (bytes_with x r.line) (lets_copy x row r.line))

@@ -1,15 +1,15 @@
 -- Laws of every order on every rig.
 use Rattle.std.specs.Prelude.{◌≡◌, ℕ, ◌^◌, ◌<◌, ◌≤◌, Bool, true, false, ◌≢◌, ◌⊎◌, ◌↔◌, List, [], ◌∷◌, map, length, Some, ◌==◌}
-use Rattle.kind.specs.Kinds.{row_length, at, Bytes, in_row}
+use Rattle.kinds.specs.Kinds.{row_length, at, Bytes, in_row}
 use Rattle.memory.specs.Memories.{kind_in}
-use Rattle.chip.specs.Steps.{ChipState, bytes_of}
+use Rattle.chip.specs.ChipStates.{ChipState, bytes_of}
 use Rattle.chip.specs.Histories.{MetAll}
-use Rattle.line.specs.Lines.{busy}
+use Rattle.line.specs.Lines.{any_busy}
 use Rattle.rig.specs.Rigs.{RigState}
 use Rattle.wire.specs.Jobs.{done, good}
 use Rattle.wire.specs.Laws.{states, Along, KeptPower, Single, row_in}
 use Rattle.reading.specs.Laws.{finding}
-use Rattle.writing.specs.Differences.{first_difference}
+use Rattle.order.specs.Differences.{first_difference}
 use Rattle.order.specs.Orders.{ordering, Verdict, holds, refuses, refuses_at, order_call}
 
 -- the order answers held
@@ -19,10 +19,10 @@ Held (refuses k e n) = ⊥
 Held (refuses_at k e i n) = ⊥
 
 -- an order began unless 3 or 4 refused it
-abbrev pub Began : Verdict → Type 0
-Began (holds programmed n) = Unit {0}
-Began (refuses k e n) = (k ≢ 3) × (k ≢ 4)
-Began (refuses_at k e i n) = Unit {0}
+abbrev pub OrderBegan : Verdict → Type 0
+OrderBegan (holds programmed n) = Unit {0}
+OrderBegan (refuses k e n) = (k ≢ 3) × (k ≢ 4)
+OrderBegan (refuses_at k e i n) = Unit {0}
 
 -- the tag with the number kept power: it has power before the first step and after every step
 abbrev pub Kept : ℕ → ℕ → List ℕ → RigState → Type 0
@@ -44,7 +44,7 @@ found_then x row new r = row_in (bytes_with x (order_call x row new r).0.line) r
 -- whether the tag with the number lets the row be copied to, by the rules of its kind
 abbrev pub lets_copy : ℕ → ℕ → List ChipState → Bool
 lets_copy x row [] = false
-lets_copy x row (c ∷ cs) = elim (c.number == x) [ true ↦ (kind_in c.memory).copy (bytes_of c) row | false ↦ lets_copy x row cs ]
+lets_copy x row (c ∷ cs) = elim (c.number == x) [ true ↦ (kind_in c.memory).copy_rule (bytes_of c) row | false ↦ lets_copy x row cs ]
 
 -- what an order answers whose tag kept power, by the ordered row, whether the tag lets it be copied to, and the row then found:
 -- held in 638 steps, programmed where the tag lets it; refused with 7 in its second exchange, after 362 steps;
@@ -73,16 +73,16 @@ pub record Tells (x row : ℕ) (new : List ℕ) (r : RigState) : Type 0 where
 abbrev pub OrderTells : Type 0
 OrderTells =
     (r : RigState) (x row : ℕ) (new : List ℕ) → MetAll r.line → x < 2 ^ 64 → row < 65536 → length new ≡ row_length → Bytes new
-    → Began (order_call x row new r).1 → Single x r.line → Tells x row new r
+    → OrderBegan (order_call x row new r).1 → Single x r.line → Tells x row new r
 
 -- refusal 3 comes before any step, to a line that is busy, with all unchanged, whatever its chips have met
 abbrev pub BusyUnchanged : Type 0
 BusyUnchanged =
-    (r : RigState) (x row e n : ℕ) (new : List ℕ) → (order_call x row new r).1 ≡ refuses 3 e n → ((order_call x row new r).0 ≡ r) × (busy r.line ≡ true)
+    (r : RigState) (x row e n : ℕ) (new : List ℕ) → (order_call x row new r).1 ≡ refuses 3 e n → ((order_call x row new r).0 ≡ r) × (any_busy r.line ≡ true)
 
 -- an order leaves no tag programming, whichever step is cut, on a line of any chips that was not busy
 abbrev pub LeavesFree : Type 0
-LeavesFree = (r : RigState) (x row : ℕ) (new : List ℕ) → busy r.line ≡ false → busy (order_call x row new r).0.line ≡ false
+LeavesFree = (r : RigState) (x row : ℕ) (new : List ℕ) → any_busy r.line ≡ false → any_busy (order_call x row new r).0.line ≡ false
 
 -- a held order takes 638 steps, and no order takes more, so its count stays below the limit of 32 bits
 abbrev pub steps_of : Verdict → ℕ

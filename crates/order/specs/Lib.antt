@@ -1,3 +1,5 @@
-pub mod Orders
-pub mod Meaning
+pub mod Differences
 pub mod Laws
+pub mod OrderOutcomes
+pub mod Orders
+pub mod Writings

@@ -1,13 +1,13 @@
 -- The verified order of a row.
 use Rattle.std.specs.Prelude.{ℕ, ◌%◌, Bool, true, false, List, Some, None, Option, ◌==◌}
-use Rattle.kind.specs.Kinds.{row_length}
+use Rattle.kinds.specs.Kinds.{row_length}
 use Rattle.rig.specs.Rigs.{RigState}
 use Rattle.wire.specs.Jobs.{Job, ret, Got, done, line_busy, Ran, run}
-use Rattle.wire.specs.Exchanges.{pulses, number_of}
-use Rattle.wire.specs.declared.fault.Why.{Why}
-use Rattle.reading.specs.Readings.{finds, closes}
-use Rattle.writing.specs.Differences.{first_difference}
-use Rattle.writing.specs.Writings.{loads, checks, copies}
+use Rattle.wire.specs.Exchanges.{pulses, error_code}
+use Rattle.wire.specs.declared.exchange_fault.ExchangeError.{ExchangeError}
+use Rattle.reading.specs.Readings.{reads_memory, closes_by_reset}
+use Rattle.order.specs.Differences.{first_difference}
+use Rattle.order.specs.Writings.{writes_scratchpad, verifies_scratchpad, copies_scratchpad}
 
 -- how an order ends
 pub data Ending : Type 0 where
@@ -15,8 +15,8 @@ pub data Ending : Type 0 where
   refusal : ℕ → ℕ → Ending  -- number, exchange
   refusal_at : ℕ → ℕ → ℕ → Ending  -- number, exchange, the first index that differs
 
-abbrev pub failed : Why → ℕ → Job Ending
-failed why e = ret (refusal (number_of why) e)
+abbrev pub failed : ExchangeError → ℕ → Job Ending
+failed error e = ret (refusal (error_code error) e)
 
 -- the row that was found is judged
 abbrev pub judged : Bool → Option ℕ → Ending
@@ -26,17 +26,17 @@ judged programmed (Some i) = refusal_at 8 5 i
 -- (4) F0h, address, read the row; (5) a closing reset; only then the judgement
 abbrev pub finds_and_closes : ℕ → ℕ → List ℕ → Bool → Job Ending
 finds_and_closes x row new programmed =
-    pulses (finds 4 x row) (λ found. pulses (closes 5) (λ _. ret (judged programmed (first_difference new found))) failed) failed
+    pulses (reads_memory 4 x row) (λ found. pulses (closes_by_reset 5) (λ _. ret (judged programmed (first_difference new found))) failed) failed
 
 -- no copy is sent where the scratchpad differs
 abbrev pub copies_if : ℕ → ℕ → List ℕ → Option ℕ → Job Ending
-copies_if x row new None = pulses (copies x row) (finds_and_closes x row new) failed
+copies_if x row new None = pulses (copies_scratchpad x row) (finds_and_closes x row new) failed
 copies_if x row new (Some i) = ret (refusal_at 7 2 i)
 
 -- (1) to (5)
 abbrev pub ordering : ℕ → ℕ → List ℕ → Job Ending
 ordering x row new =
-    pulses (loads x row new) (λ _. pulses (checks x row) (λ loaded. copies_if x row new (first_difference new loaded)) failed) failed
+    pulses (writes_scratchpad x row new) (λ _. pulses (verifies_scratchpad x row) (λ loaded. copies_if x row new (first_difference new loaded)) failed) failed
 
 -- what the caller of an order is told, with the steps made; exchange 0 and 0 steps before any step
 pub data Verdict : Type 0 where

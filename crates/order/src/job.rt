@@ -1,22 +1,22 @@
 ghost use Rattle.std.specs.Prelude.{◌≡◌};
 ghost use Rattle.chip.specs.Histories.{MetAll};
-ghost use Rattle.rig.specs.Meaning.{counting, rig_of};
+ghost use Rattle.rig.specs.RigModel.{counting, rig_of};
 ghost use Rattle.wire.specs.Laws.{Single};
-ghost use Rattle.writing.specs.Differences.{first_difference};
+ghost use Rattle.order.specs.Differences.{first_difference};
 ghost use Rattle.order.specs.Orders.{order_call};
-ghost use Rattle.order.specs.Laws.{Began, Tells, OrderTells, BusyUnchanged, LeavesFree, OnlyTheRow, Uncopied, OrderSteps};
-ghost use Rattle.order.specs.Meaning.{judgement, Concluded, Ordered, order_verdict, order_count};
+ghost use Rattle.order.specs.Laws.{OrderBegan, Tells, OrderTells, BusyUnchanged, LeavesFree, OnlyTheRow, Uncopied, OrderSteps};
+ghost use Rattle.order.specs.OrderOutcomes.{judgement, Concluded, Ordered, order_verdict, order_count};
 
-use crate::fault::OrderFault;
-use kind::rows::ROW;
-use line::bus::Line;
-use number::registration::Number;
-use reading::exchanges::{close, find};
-use rig::master::Rig;
+use crate::order_fault::OrderFault;
+use kinds::row::ROW;
+use line::line::Line;
+use base::registration_number::RegistrationNumber;
+use reading::exchanges::{closing_reset, read_memory};
+use rig::rig::Rig;
 use wire::opening::begin_job;
 use wire::target::Target;
-use writing::differences::first_difference;
-use writing::exchanges::{check, copy, load};
+use crate::differences::first_difference;
+use crate::exchanges::{verify_scratchpad, copy_scratchpad, write_scratchpad};
 
 // Exchanges 3 to 5, once the scratchpad holds what was ordered.
 fn conclude<L: Line>(
@@ -26,9 +26,9 @@ fn conclude<L: Line>(
 ) -> Result<(bool, u32), OrderFault>
     ensures { Concluded target.number.word target.row new.now (counting L.chips rig.old) (counting L.chips rig.new) result }
 {
-    let programmed = copy(rig, target)?;
-    let found = find(rig, target, 4)?;
-    close(rig, 5)?;
+    let programmed = copy_scratchpad(rig, target)?;
+    let found = read_memory(rig, target, 4)?;
+    closing_reset(rig, 5)?;
     judge(programmed, new, &found, rig.steps())
 }
 
@@ -54,8 +54,8 @@ fn order_steps<L: Line>(
 ) -> Result<(bool, u32), OrderFault>
     ensures { Ordered target.number.word target.row new.now (counting L.chips rig.old) (counting L.chips rig.new) result }
 {
-    load(rig, target, new)?;
-    let loaded = check(rig, target)?;
+    write_scratchpad(rig, target, new)?;
+    let loaded = verify_scratchpad(rig, target)?;
     if let Some(index) = first_difference(new, &loaded) {
         return Err(OrderFault::Differs {
             index,
@@ -69,13 +69,13 @@ fn order_steps<L: Line>(
 // Number and row apart, as a master asks them; a target inside.
 pub fn order<L: Line>(
     rig: &mut Rig<L>,
-    number: Number,
+    number: RegistrationNumber,
     row: u16,
     new: &[u8; ROW],
 ) -> Result<(bool, u32), OrderFault>
     ensures told { (rig_of L.chips rig.new, order_verdict result) ≡ order_call number.word row new.now (rig_of L.chips rig.old) }
     ensures counted { (counting L.chips rig.new).steps ≡ order_count (counting L.chips rig.old).steps result }
-    ensures here { MetAll (L.chips rig.old.line) → Began (order_verdict result) → Single number.word (L.chips rig.old.line) → Tells number.word row new.now (rig_of L.chips rig.old) }
+    ensures here { MetAll (L.chips rig.old.line) → OrderBegan (order_verdict result) → Single number.word (L.chips rig.old.line) → Tells number.word row new.now (rig_of L.chips rig.old) }
     ensures tells { OrderTells }
     ensures unchanged { BusyUnchanged }
     ensures free { LeavesFree }

@@ -1,5 +1,7 @@
 // The verified order of eight bytes to a row.
 #![tactic(auto)]
 
-pub mod fault;
+pub mod differences;
+pub mod exchanges;
 pub mod job;
+pub mod order_fault;

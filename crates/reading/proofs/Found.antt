@@ -1,29 +1,29 @@
 -- The exchanges that a reading shares with an order: the row that F0h gives, and the closing reset.
 use Rattle.std.proofs.Common.{◌≡◌, ℕ, zero, suc, ◌+◌, ◌*◌, ◌/◌, ◌%◌, ◌^◌, ◌<◌, Bool, true, false, cond, ◌||◌, List, [], ◌∷◌, ◌++◌, map, drop, sym, refl, ap, ◌∙◌, subst, ap₂, arith}
 use Rattle.std.proofs.lemmas.Bool.{true≢false}
-use Rattle.bits.specs.Bits.{bits_all}
-use Rattle.kind.specs.Kinds.{Bytes}
+use Rattle.base.specs.Bits.{bits_all}
+use Rattle.kinds.specs.Kinds.{Bytes}
 use Rattle.memory.specs.Scratchpads.{on, sending, command, read_low, read_high, Padded}
 use Rattle.memory.specs.Memories.{Memory, padded, bytes_in}
 use Rattle.memory.proofs.Sound.{SoundMemory}
 use Rattle.chip.specs.Chips.{Live, off, Phase, selected, powered}
 use Rattle.chip.specs.Chips.{on as under}
-use Rattle.chip.specs.Steps.{ChipState, bytes_of, has_power, is_busy, reset_chip, power_chip, opened_by}
+use Rattle.chip.specs.ChipStates.{ChipState, bytes_of, has_power, is_busy, reset_chip, power_chip, opened_by}
 use Rattle.chip.proofs.Keeps.{bytes_power}
 use Rattle.chip.proofs.Sound.{SoundAll, sound_power, met_sounds}
-use Rattle.line.specs.Lines.{presence, busy}
-use Rattle.rig.specs.Rigs.{resets}
+use Rattle.line.specs.Lines.{presence, any_busy}
+use Rattle.rig.specs.Rigs.{reset_pulse}
 use Rattle.wire.specs.Jobs.{Job, ret, done, run, Said, good, send_bytes, read_bytes}
 use Rattle.wire.specs.Exchanges.{answer, refuse, pulses}
-use Rattle.wire.specs.declared.fault.Why.{Why}
-use Rattle.wire.specs.declared.fault.Why.TheVariants.{NoPresence}
+use Rattle.wire.specs.declared.exchange_fault.ExchangeError.{ExchangeError}
+use Rattle.wire.specs.declared.exchange_fault.ExchangeError.TheVariants.{NoPresence}
 use Rattle.wire.specs.Laws.{NoneHas, Single, row_in}
 use Rattle.wire.proofs.Leading.{free, Leads, leads_then, leads_step, WideAll}
 use Rattle.wire.proofs.Alone.{QuietAll, put, talking, one_byte}
 use Rattle.wire.proofs.After.{single_map, sound_map}
 use Rattle.wire.proofs.One.{others_quiet, open_one, hear_memory}
 use Rattle.wire.proofs.Selected.{sound_wide, sound_mid}
-use Rattle.reading.specs.Readings.{finds, closes, failed}
+use Rattle.reading.specs.Readings.{reads_memory, closes_by_reset, failed}
 use Rattle.reading.specs.Laws.{finding, RowIsRead}
 
 drop_bytes : (k : ℕ) (m : List ℕ) → Bytes m → Bytes (drop k m)
@@ -32,20 +32,20 @@ drop_bytes (suc k) [] f a = f a
 drop_bytes (suc k) (y ∷ ys) f a = drop_bytes k ys (λ b. f (suc b)) a
 
 -- a closing reset that finds a chip
-pub closed_by : {B : Type 0} (e : ℕ) (k : Unit {0} → Job B) (bad : Why → ℕ → Job B) (l : List ChipState) → busy l ≡ false → presence l ≡ true
-    → Leads (pulses (closes e) k bad) l (k tt) (map reset_chip l)
+pub closed_by : {B : Type 0} (e : ℕ) (k : Unit {0} → Job B) (bad : ExchangeError → ℕ → Job B) (l : List ChipState) → any_busy l ≡ false → presence l ≡ true
+    → Leads (pulses (closes_by_reset e) k bad) l (k tt) (map reset_chip l)
 closed_by e k bad l b p =
-    subst (λ t. Leads (pulses (closes e) k bad) l (pulses (cond t (answer tt) (refuse NoPresence e)) k bad) (map reset_chip l)) p
-    (leads_step resets (λ t. pulses (cond t (answer tt) (refuse NoPresence e)) k bad) l b)
+    subst (λ t. Leads (pulses (closes_by_reset e) k bad) l (pulses (cond t (answer tt) (refuse NoPresence e)) k bad) (map reset_chip l)) p
+    (leads_step reset_pulse (λ t. pulses (cond t (answer tt) (refuse NoPresence e)) k bad) l b)
 
 module _ (x row : ℕ) (hx : x < 2 ^ 64) (hr : row < 65536) (us vs : List ChipState) (nu : NoneHas x us) (nv : NoneHas x vs) (wu : WideAll us) (wv : WideAll vs) where
   address : row % 256 + 256 * (row / 256) ≡ row
   address = omega arith
 
   -- F0h tells the row of the powered chip with the number
-  pub found_row : {B : Type 0} (e : ℕ) (k : List ℕ → Job B) (bad : Why → ℕ → Job B) (rc : Bool) (p : Phase) (q : Padded) → Bytes q.bytes
-      → busy (us ++ (record { number = x; live = under rc p; memory = padded q } ∷ vs)) ≡ false
-      → Leads (pulses (finds e x row) k bad) (us ++ (record { number = x; live = under rc p; memory = padded q } ∷ vs)) (k (row_in q.bytes row))
+  pub found_row : {B : Type 0} (e : ℕ) (k : List ℕ → Job B) (bad : ExchangeError → ℕ → Job B) (rc : Bool) (p : Phase) (q : Padded) → Bytes q.bytes
+      → any_busy (us ++ (record { number = x; live = under rc p; memory = padded q } ∷ vs)) ≡ false
+      → Leads (pulses (reads_memory e x row) k bad) (us ++ (record { number = x; live = under rc p; memory = padded q } ∷ vs)) (k (row_in q.bytes row))
       (map (opened_by x) us ++ (record { number = x; live = under true selected; memory = padded (record { rules = q.rules; bytes = q.bytes; work = on q.work.regs (sending (bits_all (drop 8 (drop row q.bytes)))) }) } ∷ map (opened_by x) vs))
   found_row e k bad rc p q small b =
       leads_then (open_one x hx us vs wu wv (send_bytes (0xF0 ∷ row % 256 ∷ row / 256 ∷ []) (read_bytes 8 k)) (bad NoPresence e) rc p q b)
@@ -71,7 +71,7 @@ module _ (x row : ℕ) (hx : x < 2 ^ 64) (hr : row < 65536) (us vs : List ChipSt
       qv = others_quiet x vs nv
 
 -- power-up makes no chip busy
-busy_power : (l : List ChipState) → busy (map power_chip l) ≡ busy l
+busy_power : (l : List ChipState) → any_busy (map power_chip l) ≡ any_busy l
 busy_power [] = refl
 busy_power (c ∷ cs) = ap₂ (λ a b. a || b) (go c.live) (busy_power cs)
   where
@@ -88,25 +88,25 @@ has_powered c = go c.live
 
 module _ (e x row : ℕ) (hx : x < 2 ^ 64) (hr : row < 65536) where
   abbrev asking : Job (Said (List ℕ))
-  asking = pulses (finds e x row) (λ found. ret (good found)) failed
+  asking = pulses (reads_memory e x row) (λ found. ret (good found)) failed
 
   -- a powered tag tells its row
   told_by : (us vs : List ChipState) → NoneHas x us → NoneHas x vs → WideAll us → WideAll vs → (n : ℕ) (l : Live) (m : Memory) → n ≡ x → powered l ≡ true → SoundMemory m
-      → busy (us ++ (record { number = n; live = l; memory = m } ∷ vs)) ≡ false
+      → any_busy (us ++ (record { number = n; live = l; memory = m } ∷ vs)) ≡ false
       → (run 0 asking (free (us ++ (record { number = n; live = l; memory = m } ∷ vs)))).got ≡ done (good (row_in (bytes_in m) row))
   told_by us vs nu nv wu wv n off m i p s b = absurd (true≢false (sym p))
   told_by us vs nu nv wu wv n (under rc ph) (padded q) i p s b =
-      subst (λ k. busy (us ++ (record { number = k; live = under rc ph; memory = padded q } ∷ vs)) ≡ false → (run 0 asking (free (us ++ (record { number = k; live = under rc ph; memory = padded q } ∷ vs)))).got ≡ done (good (row_in q.bytes row)))
+      subst (λ k. any_busy (us ++ (record { number = k; live = under rc ph; memory = padded q } ∷ vs)) ≡ false → (run 0 asking (free (us ++ (record { number = k; live = under rc ph; memory = padded q } ∷ vs)))).got ≡ done (good (row_in q.bytes row)))
       (sym i) (λ b'. ap (λ w. w.got) ((found_row x row hx hr us vs nu nv wu wv e (λ found. ret (good found)) failed rc ph q s.small b').so 0).1) b
 
-  told_powered : (l : List ChipState) → SoundAll l → busy l ≡ false → (o : Single x l) → has_power o.tag ≡ true → (run 0 asking (free l)).got ≡ done (good (row_in (bytes_of o.tag) row))
+  told_powered : (l : List ChipState) → SoundAll l → any_busy l ≡ false → (o : Single x l) → has_power o.tag ≡ true → (run 0 asking (free l)).got ≡ done (good (row_in (bytes_of o.tag) row))
   told_powered l s b o p =
       let parts = sound_mid o.before o.behind o.tag (subst SoundAll o.so s) in
       ap (λ k. (run 0 asking (free k)).got) o.so
-      ∙ told_by o.before o.behind o.none_before o.none_behind (sound_wide o.before parts.0) (sound_wide o.behind parts.2) o.tag.number o.tag.live o.tag.memory o.is p parts.1.memory (ap busy (sym o.so) ∙ b)
+      ∙ told_by o.before o.behind o.none_before o.none_behind (sound_wide o.before parts.0) (sound_wide o.behind parts.2) o.tag.number o.tag.live o.tag.memory o.is p parts.1.memory (ap any_busy (sym o.so) ∙ b)
 
   -- and so does any, powered up first
-  pub told_row : (l : List ChipState) → SoundAll l → busy l ≡ false → (o : Single x l) → (finding e x row l).got ≡ done (good (row_in (bytes_of o.tag) row))
+  pub told_row : (l : List ChipState) → SoundAll l → any_busy l ≡ false → (o : Single x l) → (finding e x row l).got ≡ done (good (row_in (bytes_of o.tag) row))
   told_row l s b o =
       told_powered (map power_chip l) (sound_map power_chip sound_power l s) (busy_power l ∙ b) (single_map x power_chip (λ c. refl) l o) (has_powered o.tag)
       ∙ ap (λ m. done (good (row_in m row))) (bytes_power o.tag)

@@ -1,6 +1,6 @@
 pub mod Chain
+pub mod Found
 pub mod Parts
 pub mod Quiet
-pub mod Found
-pub mod Truth
 pub mod Steps
+pub mod Truth

@@ -1,10 +1,10 @@
 -- How many steps a reading takes.
 use Rattle.std.proofs.Common.{◌≡◌, ℕ, ◌/◌, ◌%◌, ◌≤◌, Bool, true, false, cond, eqb, List, [], ◌∷◌, sym, refl, ◌∙◌, arith}
-use Rattle.bits.specs.Bits.{bits_all}
-use Rattle.rig.specs.Rigs.{resets}
+use Rattle.base.specs.Bits.{bits_all}
+use Rattle.rig.specs.Rigs.{reset_pulse}
 use Rattle.wire.specs.Jobs.{ret, Got, done, line_busy, run, Said, good, bad, answered, steps_in, report_of, send_bytes, read_bytes}
 use Rattle.wire.specs.Exchanges.{answer, refuse, pulses}
-use Rattle.wire.specs.declared.fault.Why.TheVariants.{NoPresence}
+use Rattle.wire.specs.declared.exchange_fault.ExchangeError.TheVariants.{NoPresence}
 use Rattle.wire.proofs.Counts.{LeavesAt, GotAt, leaves_at, at-step, at-send, at_bytes, at-opening}
 use Rattle.reading.specs.Readings.{all_ones, failed, reading}
 use Rattle.reading.specs.Laws.{ReadingSteps}
@@ -16,7 +16,7 @@ Takes k (bad n e) = k ≤ 267
 
 module _ (x row : ℕ) where
   at_closed : (xs : List ℕ) → LeavesAt Takes 266 (closed xs)
-  at_closed xs = at-step Takes resets 266 (λ b. pulses (cond b (answer tt) (refuse NoPresence 3)) (λ (_ : Unit {0}). ret (good xs)) failed) (omega arith) go
+  at_closed xs = at-step Takes reset_pulse 266 (λ b. pulses (cond b (answer tt) (refuse NoPresence 3)) (λ (_ : Unit {0}). ret (good xs)) failed) (omega arith) go
     where
       go : (b : Bool) → LeavesAt Takes 267 (pulses (cond b (answer tt) (refuse NoPresence 3)) (λ (_ : Unit {0}). ret (good xs)) failed)
       go true = refl

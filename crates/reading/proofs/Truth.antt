@@ -2,29 +2,29 @@
 use Rattle.std.proofs.Common.{◌≡◌, ℕ, zero, suc, ◌+◌, ◌%◌, ◌^◌, ◌<◌, Bool, true, false, cond, ◌&&◌, eqb, List, [], ◌∷◌, ◌++◌, map, drop, sym, refl, ap, ◌∙◌, subst, arith, eq-eqb, ne_eqb}
 use mathlib.Core.Bool.{and-false}
 use Rattle.std.proofs.lemmas.Bool.{true≢false}
-use Rattle.bits.specs.Bits.{bits_all}
-use Rattle.bits.proofs.Queues.{bytes_append}
-use Rattle.sums.specs.Sums.{crc16, inverted}
-use Rattle.kind.specs.Kinds.{Rules, Bytes}
+use Rattle.base.specs.Bits.{bits_all}
+use Rattle.base.proofs.Queues.{bytes_append}
+use Rattle.base.specs.Crc.{crc16, inverted}
+use Rattle.kinds.specs.Kinds.{Rules, Bytes}
 use Rattle.memory.specs.Scratchpads.{Regs, flag, status, report, offset_of, Work, on, sending, command, Padded}
 use Rattle.memory.specs.Memories.{Memory, padded, bytes_in}
 use Rattle.memory.proofs.Sound.{SoundRegs, SoundPad, SoundMemory}
 use Rattle.chip.specs.Chips.{Live, off, Phase, selected, powered}
 use Rattle.chip.specs.Chips.{on as under}
-use Rattle.chip.specs.Steps.{ChipState, bytes_of, reset_chip, opened_by}
+use Rattle.chip.specs.ChipStates.{ChipState, bytes_of, reset_chip, opened_by}
 use Rattle.chip.proofs.Sound.{Sound, SoundAll, met_sounds}
-use Rattle.line.specs.Lines.{presence, busy}
-use Rattle.rig.specs.Rigs.{resets}
+use Rattle.line.specs.Lines.{presence, any_busy}
+use Rattle.rig.specs.Rigs.{reset_pulse}
 use Rattle.wire.specs.Jobs.{ret, Got, done, line_busy, run, Said, good, bad, answered, report_of, send_bytes, read_bytes}
-use Rattle.wire.specs.Exchanges.{answer, refuse, pulses, number_of}
-use Rattle.wire.specs.declared.fault.Why.{Why}
-use Rattle.wire.specs.declared.fault.Why.TheVariants.{NoPresence}
+use Rattle.wire.specs.Exchanges.{answer, refuse, pulses, error_code}
+use Rattle.wire.specs.declared.exchange_fault.ExchangeError.{ExchangeError}
+use Rattle.wire.specs.declared.exchange_fault.ExchangeError.TheVariants.{NoPresence}
 use Rattle.wire.specs.Laws.{powered_in, NoneHas, row_in}
 use Rattle.wire.proofs.Leading.{free, Leads, leads_then, WideAll, opened, unopened}
 use Rattle.wire.proofs.Alone.{QuietAll, put, talking, busy_put, one_byte, bytes_read, send_quiet, bytes_quiet}
 use Rattle.wire.proofs.One.{opened_none, opened_wide, others_quiet, absent_quiet, presence_mid, open_one}
 use Rattle.wire.proofs.Power.{GotGood, Lost, Wary, lost_ret, lost_step, lost_exchange, wary_exchange, kept_free, good_free, good_kept}
-use Rattle.reading.specs.Readings.{all_ones, asks, finds, failed, reading, read_call}
+use Rattle.reading.specs.Readings.{all_ones, probes_scratchpad, reads_memory, failed, reading, read_call}
 use Rattle.reading.specs.Laws.{Kept, ReadingTells}
 use Rattle.reading.proofs.Parts.{closed, judged, found, asked, call_at}
 use Rattle.reading.proofs.Found.{found_row, closed_by}
@@ -53,11 +53,11 @@ IsGood (bad k e) = ⊥
 
 module _ (x row : ℕ) where
   -- whichever step power fails at, no row is read
-  failed_lost : (w : Why) (e : ℕ) → Lost IsGood (failed w e)
-  failed_lost w e = lost_ret IsGood (bad (number_of w) e) (λ z. z)
+  failed_lost : (w : ExchangeError) (e : ℕ) → Lost IsGood (failed w e)
+  failed_lost w e = lost_ret IsGood (bad (error_code w) e) (λ z. z)
 
   closed_lost : (f : List ℕ) → Lost IsGood (closed f)
-  closed_lost f = lost_step IsGood resets (λ b. pulses (cond b (answer tt) (refuse NoPresence 3)) (λ (_ : Unit {0}). ret (good f)) failed) (failed_lost NoPresence 3)
+  closed_lost f = lost_step IsGood reset_pulse (λ b. pulses (cond b (answer tt) (refuse NoPresence 3)) (λ (_ : Unit {0}). ret (good f)) failed) (failed_lost NoPresence 3)
 
   closed_wary : (f : List ℕ) → Wary IsGood (closed f)
   closed_wary f = (failed_lost NoPresence 3, go)
@@ -68,8 +68,8 @@ module _ (x row : ℕ) where
 
   reading_wary : Wary IsGood (reading x row)
   reading_wary =
-      wary_exchange IsGood (found x row) failed (λ _. lost_exchange IsGood closed failed closed_lost failed_lost (finds 2 x row)) failed_lost
-      (λ _. wary_exchange IsGood closed failed closed_lost failed_lost closed_wary (λ w e. tt) (finds 2 x row)) (λ w e. tt) (asks x)
+      wary_exchange IsGood (found x row) failed (λ _. lost_exchange IsGood closed failed closed_lost failed_lost (reads_memory 2 x row)) failed_lost
+      (λ _. wary_exchange IsGood closed failed closed_lost failed_lost closed_wary (λ w e. tt) (reads_memory 2 x row)) (λ w e. tt) (probes_scratchpad x)
 
   module _ (hx : x < 2 ^ 64) (hr : row < 65536) where
     -- 1. the tag has power: the reading answers its row
@@ -130,7 +130,7 @@ module _ (x row : ℕ) where
       not_garbled = ap (λ t. eqb r.ta1 255 && (eqb r.ta2 255 && t)) (ne_eqb (status r) 255 (λ e. let b = status_bound r sr.ending in omega arith)) ∙ ap (λ t. eqb r.ta1 255 && t) (and-false (eqb r.ta2 255)) ∙ and-false (eqb r.ta1 255)
 
       -- AAh tells three bytes that are not all FFh
-      asking : (rc : Bool) (p : Phase) → busy (us ++ (record { number = x; live = under rc p; memory = padded q } ∷ vs)) ≡ false
+      asking : (rc : Bool) (p : Phase) → any_busy (us ++ (record { number = x; live = under rc p; memory = padded q } ∷ vs)) ≡ false
           → Leads (reading x row) (us ++ (record { number = x; live = under rc p; memory = padded q } ∷ vs)) (found x row tt) (at1 (on r (sending (bits_all rest))))
       asking rc p e =
           leads_then (open_one x hx us vs wu wv (send_bytes (0xAA ∷ []) (read_bytes 3 (asked x row))) (failed NoPresence 1) rc p q e)
@@ -150,7 +150,7 @@ module _ (x row : ℕ) where
           closed_by 3 (λ _. ret (good (row_in m row))) failed (at2 last) (busy_put us2 vs2 (talking us2 vs2 qu2 qv2 K x m true last) qu2 qv2)
           (presence_mid us2 vs2 (talking us2 vs2 qu2 qv2 K x m true last) refl)
 
-      pub reads : (rc : Bool) (p : Phase) → busy (us ++ (record { number = x; live = under rc p; memory = padded q } ∷ vs)) ≡ false
+      pub reads : (rc : Bool) (p : Phase) → any_busy (us ++ (record { number = x; live = under rc p; memory = padded q } ∷ vs)) ≡ false
           → Leads (reading x row) (us ++ (record { number = x; live = under rc p; memory = padded q } ∷ vs)) (ret (good (row_in m row))) (map reset_chip (at2 last))
       reads rc p e = leads_then (asking rc p e) (leads_then finding closing-reset)
 
@@ -158,7 +158,7 @@ module _ (x row : ℕ) where
     abbrev Refused : List ChipState → Type 0
     Refused l = (k : ℕ) × (e : ℕ) × ((run 0 (reading x row) (free l)).got ≡ done (bad k e))
 
-    pub absent : (l : List ChipState) → WideAll l → busy l ≡ false → powered_in x l ≡ false → Refused l
+    pub absent : (l : List ChipState) → WideAll l → any_busy l ≡ false → powered_in x l ≡ false → Refused l
     absent l w e a = go (presence l) refl
       where
         quietly : QuietAll (map (opened_by x) l)
@@ -175,11 +175,11 @@ module _ (x row : ℕ) where
         go false p = (5, 1, ap (λ w. w.got) ((unopened x (send_bytes (0xAA ∷ []) (read_bytes 3 (asked x row))) (failed NoPresence 1) l e p).so 0).1)
 
 module _ (x row : ℕ) (hx : x < 2 ^ 64) (hr : row < 65536) (us vs : List ChipState) (nu : NoneHas x us) (nv : NoneHas x vs) (su : SoundAll us) (sv : SoundAll vs) where
-  tag_tells : (n : ℕ) (l : Live) (mem : Memory) → n ≡ x → powered l ≡ true → SoundMemory mem → busy (us ++ (record { number = n; live = l; memory = mem } ∷ vs)) ≡ false
+  tag_tells : (n : ℕ) (l : Live) (mem : Memory) → n ≡ x → powered l ≡ true → SoundMemory mem → any_busy (us ++ (record { number = n; live = l; memory = mem } ∷ vs)) ≡ false
       → (run 0 (reading x row) (free (us ++ (record { number = n; live = l; memory = mem } ∷ vs)))).got ≡ done (good (row_in (bytes_in mem) row))
   tag_tells n off mem e p s b = absurd (true≢false (sym p))
   tag_tells n (under rc ph) (padded q) e p s b =
-      subst (λ k. busy (us ++ (record { number = k; live = under rc ph; memory = padded q } ∷ vs)) ≡ false → (run 0 (reading x row) (free (us ++ (record { number = k; live = under rc ph; memory = padded q } ∷ vs)))).got ≡ done (good (row_in q.bytes row)))
+      subst (λ k. any_busy (us ++ (record { number = k; live = under rc ph; memory = padded q } ∷ vs)) ≡ false → (run 0 (reading x row) (free (us ++ (record { number = k; live = under rc ph; memory = padded q } ∷ vs)))).got ≡ done (good (row_in q.bytes row)))
       (sym e) (λ b'. ap (λ w. w.got) ((reads x row hx hr us vs nu nv (sound_wide us su) (sound_wide vs sv) q s rc ph b').so 0).1) b
 
 pub reading-tells : ReadingTells
@@ -198,7 +198,7 @@ reading-tells r x row met hx ha hr e s = record { kept = kept; lacked = lacked }
     freely u =
         ap (λ l. (run 0 (reading x row) (free l)).got) s.so
         ∙ tag_tells x row hx hr s.before s.behind s.none_before s.none_behind parts.0 parts.2 s.tag.number s.tag.live s.tag.memory s.is
-        (powered_one x s.before s.behind s.tag s.none_before s.none_behind (ap (powered_in x) (sym s.so) ∙ u)) parts.1.memory (ap busy (sym s.so) ∙ e)
+        (powered_one x s.before s.behind s.tag s.none_before s.none_behind (ap (powered_in x) (sym s.so) ∙ u)) parts.1.memory (ap any_busy (sym s.so) ∙ e)
 
     kept : Kept x row r → (steps : ℕ) × ((read_call x row r).1 ≡ answered (row_in (bytes_of s.tag) row) steps)
     kept k = (

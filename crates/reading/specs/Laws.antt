@@ -1,14 +1,14 @@
 -- Laws of every reading on every rig.
 use Rattle.std.specs.Prelude.{◌≡◌, ℕ, ◌%◌, ◌^◌, ◌<◌, ◌≤◌, true, false, List, ◌∷◌, map, ◌≢◌}
-use Rattle.kind.specs.Kinds.{row_length}
-use Rattle.chip.specs.Steps.{ChipState, bytes_of}
+use Rattle.kinds.specs.Kinds.{row_length}
+use Rattle.chip.specs.ChipStates.{ChipState, bytes_of}
 use Rattle.chip.specs.Histories.{MetAll}
-use Rattle.line.specs.Lines.{busy}
+use Rattle.line.specs.Lines.{any_busy}
 use Rattle.rig.specs.Rigs.{RigState, made_rig, power_rig}
 use Rattle.wire.specs.Jobs.{ret, done, Ran, run, Said, good, answered, refused_as, steps_in}
 use Rattle.wire.specs.Exchanges.{pulses}
 use Rattle.wire.specs.Laws.{states, KeptPower, Single, row_in}
-use Rattle.reading.specs.Readings.{finds, failed, reading, read_call}
+use Rattle.reading.specs.Readings.{reads_memory, failed, reading, read_call}
 
 -- the tag with the number has power before the first step and after every step
 abbrev pub Kept : ℕ → ℕ → RigState → Type 0
@@ -24,29 +24,29 @@ pub record Tells (x row : ℕ) (r : RigState) (s : Single x r.line) : Type 0 whe
 -- reading tells the truth
 abbrev pub ReadingTells : Type 0
 ReadingTells =
-    (r : RigState) (x row : ℕ) → MetAll r.line → x < 2 ^ 64 → row % row_length ≡ 0 → row < 65536 → busy r.line ≡ false
+    (r : RigState) (x row : ℕ) → MetAll r.line → x < 2 ^ 64 → row % row_length ≡ 0 → row < 65536 → any_busy r.line ≡ false
     → (s : Single x r.line) → Tells x row r s
 
 -- the exchange that finds a row by itself, on a line that is powered up first, where no step is cut:
 -- a reset, 55h with the number, F0h with the address, its low byte first, and 64 slots with 1; it answers the bytes read
 abbrev pub finding : ℕ → ℕ → ℕ → List ChipState → Ran (Said (List ℕ))
-finding e x row l = run 0 (pulses (finds e x row) (λ found. ret (good found)) failed) (power_rig (made_rig l))
+finding e x row l = run 0 (pulses (reads_memory e x row) (λ found. ret (good found)) failed) (power_rig (made_rig l))
 
 -- the row of the bytes that a tag holds is what F0h gives: with power or not before, alone or among tags of other numbers,
 -- at any address, a multiple of 8 or not
 abbrev pub RowIsRead : Type 0
 RowIsRead =
-    (l : List ChipState) (e x row : ℕ) → MetAll l → x < 2 ^ 64 → row < 65536 → busy l ≡ false → (s : Single x l)
+    (l : List ChipState) (e x row : ℕ) → MetAll l → x < 2 ^ 64 → row < 65536 → any_busy l ≡ false → (s : Single x l)
     → (finding e x row l).got ≡ done (good (row_in (bytes_of s.tag) row))
 
 -- refusal 3 comes before any step, to a line that is busy, with all unchanged, whatever its chips have met
 abbrev pub BusyUnchanged : Type 0
 BusyUnchanged =
-    (r : RigState) (x row e steps : ℕ) → (read_call x row r).1 ≡ refused_as 3 e steps → ((read_call x row r).0 ≡ r) × (busy r.line ≡ true)
+    (r : RigState) (x row e steps : ℕ) → (read_call x row r).1 ≡ refused_as 3 e steps → ((read_call x row r).0 ≡ r) × (any_busy r.line ≡ true)
 
 -- a reading leaves no tag programming, whichever step is cut, on a line of any chips that was not busy
 abbrev pub LeavesFree : Type 0
-LeavesFree = (r : RigState) (x row : ℕ) → busy r.line ≡ false → busy (read_call x row r).0.line ≡ false
+LeavesFree = (r : RigState) (x row : ℕ) → any_busy r.line ≡ false → any_busy (read_call x row r).0.line ≡ false
 
 -- a reading changes no tag's bytes
 abbrev pub BytesStay : Type 0

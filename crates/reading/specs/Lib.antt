@@ -1,3 +1,3 @@
-pub mod Readings
-pub mod Meaning
 pub mod Laws
+pub mod ReadOutcomes
+pub mod Readings

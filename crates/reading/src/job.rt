@@ -1,30 +1,30 @@
 ghost use Rattle.std.specs.Prelude.{◌≡◌, ◌%◌, true, false, map, is_err};
-ghost use Rattle.kind.specs.Kinds.{row_length};
+ghost use Rattle.kinds.specs.Kinds.{row_length};
 ghost use Rattle.chip.specs.Histories.{MetAll};
-ghost use Rattle.chip.specs.Steps.{bytes_of};
-ghost use Rattle.line.specs.Lines.{busy};
-ghost use Rattle.rig.specs.Meaning.{counting, rig_of};
+ghost use Rattle.chip.specs.ChipStates.{bytes_of};
+ghost use Rattle.line.specs.Lines.{any_busy};
+ghost use Rattle.rig.specs.RigModel.{counting, rig_of};
 ghost use Rattle.wire.specs.Laws.{Single};
 ghost use Rattle.wire.specs.Selection.{LineLaws};
 ghost use Rattle.reading.specs.Readings.{read_call};
 ghost use Rattle.reading.specs.Laws.{Tells, ReadingTells, RowIsRead, BusyUnchanged, LeavesFree, ReadingSteps};
-ghost use Rattle.reading.specs.Meaning.{Read, read_report, read_count};
+ghost use Rattle.reading.specs.ReadOutcomes.{Read, read_report, read_count};
 
-use crate::exchanges::{ask, close, find};
-use crate::fault::ReadFault;
-use kind::rows::ROW;
-use line::bus::Line;
-use number::registration::Number;
-use rig::master::Rig;
+use crate::exchanges::{probe_scratchpad, closing_reset, read_memory};
+use crate::read_fault::ReadFault;
+use kinds::row::ROW;
+use line::line::Line;
+use base::registration_number::RegistrationNumber;
+use rig::rig::Rig;
 use wire::opening::begin_job;
 use wire::target::Target;
 
 fn read_steps<L: Line>(rig: &mut Rig<L>, target: Target) -> Result<([u8; ROW], u32), ReadFault>
     ensures { Read target.number.word target.row (counting L.chips rig.old) (counting L.chips rig.new) result }
 {
-    ask(rig, target.number)?;
-    let found = find(rig, target, 2)?;
-    close(rig, 3)?;
+    probe_scratchpad(rig, target.number)?;
+    let found = read_memory(rig, target, 2)?;
+    closing_reset(rig, 3)?;
     Ok((found, rig.steps()))
 }
 
@@ -32,7 +32,7 @@ fn read_steps<L: Line>(rig: &mut Rig<L>, target: Target) -> Result<([u8; ROW], u
 // Number and row apart, as a master asks them; a target inside.
 pub fn read_row<L: Line>(
     rig: &mut Rig<L>,
-    number: Number,
+    number: RegistrationNumber,
     row: u16,
     into: &mut [u8; ROW],
 ) -> Result<u32, ReadFault>
@@ -40,7 +40,7 @@ pub fn read_row<L: Line>(
     ensures counted { (counting L.chips rig.new).steps ≡ read_count (counting L.chips rig.old).steps result }
     ensures kept { is_err result ≡ true → into.new ≡ into.old }
     ensures bytes { map bytes_of (L.chips rig.new.line) ≡ map bytes_of (L.chips rig.old.line) }
-    ensures here { MetAll (L.chips rig.old.line) → row % row_length ≡ 0 → busy (L.chips rig.old.line) ≡ false → (one : Single number.word (L.chips rig.old.line)) → Tells number.word row (rig_of L.chips rig.old) one }
+    ensures here { MetAll (L.chips rig.old.line) → row % row_length ≡ 0 → any_busy (L.chips rig.old.line) ≡ false → (one : Single number.word (L.chips rig.old.line)) → Tells number.word row (rig_of L.chips rig.old) one }
     ensures tells { ReadingTells }
     ensures found { RowIsRead }
     ensures unchanged { BusyUnchanged }

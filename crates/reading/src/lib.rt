@@ -2,5 +2,5 @@
 #![tactic(auto)]
 
 pub mod exchanges;
-pub mod fault;
 pub mod job;
+pub mod read_fault;

@@ -2,10 +2,10 @@
 use Rattle.std.proofs.Common.{◌≡◌, ℕ, zero, suc, Bool, true, false, ◌&&◌, ◌||◌, List, [], ◌∷◌, map, refl, ap, ◌∙◌, ap₂, arith}
 use mathlib.Core.Bool.{and-true}
 use Rattle.chip.specs.Chips.{powered}
-use Rattle.chip.specs.Steps.{ChipState, has_power, take_bit, reset_chip, dwell_chip, cut_chip}
+use Rattle.chip.specs.ChipStates.{ChipState, has_power, take_bit, reset_chip, dwell_chip, cut_chip}
 use Rattle.chip.proofs.Keeps.{Off, off_powerless, off-pull, off-busy, off-taken, off-reset, off-dwell, off-cut}
-use Rattle.line.specs.Lines.{presence, pull, busy}
-use Rattle.rig.specs.Rigs.{FuseState, none, after, Pulse, resets, slots, dwells, act, answer, deaf, pulse_by, refused}
+use Rattle.line.specs.Lines.{presence, pull, any_busy}
+use Rattle.rig.specs.Rigs.{FuseState, none, after, Pulse, reset_pulse, slot_pulse, dwell_pulse, line_after, answer, answer_if_cut, pulse_by, refused}
 
 abbrev pub AllOff : List ChipState → Type 0
 AllOff [] = Unit {0}
@@ -27,7 +27,7 @@ pub line_pull : (l : List ChipState) → AllOff l → pull l ≡ true
 line_pull [] o = refl
 line_pull (c ∷ cs) o = ap₂ ◌&&◌ (off-pull c o.0) (line_pull cs o.1)
 
-pub busy_line : (l : List ChipState) → AllOff l → busy l ≡ false
+pub busy_line : (l : List ChipState) → AllOff l → any_busy l ≡ false
 busy_line [] o = refl
 busy_line (c ∷ cs) o = ap₂ ◌||◌ (off-busy c o.0) (busy_line cs o.1)
 
@@ -36,25 +36,25 @@ line_presence [] o = refl
 line_presence (c ∷ cs) o = ap₂ ◌||◌ (ap powered o.0) (line_presence cs o.1)
 
 -- a pulse on it changes nothing and is answered as one that became a cut
-pub off-act : (p : Pulse) (l : List ChipState) → AllOff l → act p l ≡ l
-off-act resets l o = off-map reset_chip off-reset l o
-off-act (slots b) l o = off-map (take_bit (b && pull l)) (off-taken (b && pull l)) l o
-off-act dwells l o = off-map dwell_chip off-dwell l o
+pub off-line_after : (p : Pulse) (l : List ChipState) → AllOff l → line_after p l ≡ l
+off-line_after reset_pulse l o = off-map reset_chip off-reset l o
+off-line_after (slot_pulse b) l o = off-map (take_bit (b && pull l)) (off-taken (b && pull l)) l o
+off-line_after dwell_pulse l o = off-map dwell_chip off-dwell l o
 
-pub off-answer : (p : Pulse) (l : List ChipState) → AllOff l → answer p l ≡ deaf p
-off-answer resets l o = line_presence l o
-off-answer (slots b) l o = ap (λ x. b && x) (line_pull l o) ∙ and-true b
-off-answer dwells l o = refl
+pub off-answer : (p : Pulse) (l : List ChipState) → AllOff l → answer p l ≡ answer_if_cut p
+off-answer reset_pulse l o = line_presence l o
+off-answer (slot_pulse b) l o = ap (λ x. b && x) (line_pull l o) ∙ and-true b
+off-answer dwell_pulse l o = refl
 
 pub off-refused : (p : Pulse) (l : List ChipState) → AllOff l → refused p l ≡ false
-off-refused resets l o = busy_line l o
-off-refused (slots b) l o = busy_line l o
-off-refused dwells l o = refl
+off-refused reset_pulse l o = busy_line l o
+off-refused (slot_pulse b) l o = busy_line l o
+off-refused dwell_pulse l o = refl
 
-pub off-pulse : (f : FuseState) (p : Pulse) (l : List ChipState) → AllOff l → ((pulse_by f p l).0.line ≡ l) × ((pulse_by f p l).1 ≡ deaf p)
-off-pulse none p l o = (off-act p l o, off-answer p l o)
+pub off-pulse : (f : FuseState) (p : Pulse) (l : List ChipState) → AllOff l → ((pulse_by f p l).0.line ≡ l) × ((pulse_by f p l).1 ≡ answer_if_cut p)
+off-pulse none p l o = (off-line_after p l o, off-answer p l o)
 off-pulse (after zero mask) p l o = (off-map (cut_chip mask) (off-cut mask) l o, refl)
-off-pulse (after (suc n) mask) p l o = (off-act p l o, off-answer p l o)
+off-pulse (after (suc n) mask) p l o = (off-line_after p l o, off-answer p l o)
 
 -- a cut takes power from every chip
 pub cut_off : (mask : ℕ) (l : List ChipState) → AllOff (map (cut_chip mask) l)

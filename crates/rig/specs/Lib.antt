@@ -1,2 +1,2 @@
+pub mod RigModel
 pub mod Rigs
-pub mod Meaning

@@ -1,5 +1,5 @@
 // The rig: a line with a fuse, as a master drives it.
 #![tactic(auto)]
 
-pub mod fault;
-pub mod master;
+pub mod rig;
+pub mod rig_fault;

@@ -1,7 +1,7 @@
 -- Which words of the samples have a right check byte.
 use Rattle.std.proofs.Common.{◌≡◌, true, false, refl}
-use Rattle.sums.specs.Sums.{crc8}
-use Rattle.number.specs.Numbers.{checks}
+use Rattle.base.specs.Crc.{crc8}
+use Rattle.base.specs.RegistrationNumbers.{checks}
 
 pub right_sums : (checks 0x6101_0000_0036_472D ≡ true) × (checks 0x5E01_0000_0000_0000 ≡ true) × (checks 0 ≡ true)
 unfolding crc8

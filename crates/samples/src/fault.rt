@@ -1,8 +1,8 @@
 ghost use Rattle.std.specs.Prelude.{◌≡◌};
 ghost use Rattle.samples.specs.declared.fault.SampleFault.TheVariants.{NoNumber, NoTag};
 
-use kind::fault::ImageFault;
-use number::registration::NumberFault;
+use kinds::image_fault::ImageFault;
+use base::registration_number::RegistrationNumberFault;
 use std::error::Error;
 use std::fmt;
 
@@ -24,10 +24,10 @@ impl fmt::Display for SampleFault {
 
 impl Error for SampleFault {}
 
-impl From<NumberFault> for SampleFault {
+impl From<RegistrationNumberFault> for SampleFault {
     ghost from_gives = { λ _ e. e ≡ NoNumber };
 
-    fn from(_e: NumberFault) -> SampleFault {
+    fn from(_e: RegistrationNumberFault) -> SampleFault {
         Self::NoNumber
     }
 }

@@ -3,7 +3,6 @@
 
 pub mod fault;
 pub mod hex;
-pub mod many;
 pub mod numbers;
 pub mod plugs;
 pub mod refused;

@@ -1,22 +1,22 @@
 ghost use Rattle.std.specs.Prelude.{◌≡◌, ◌↔◌, IsOk, IfOk, IfErr, EachIndex, length, slice_index};
 ghost use Rattle.memory.specs.Memories.{padded};
-ghost use Rattle.chip.specs.Meaning.{model as chip_of};
-ghost use Rattle.scratchpad.specs.Meaning.{model};
-ghost use Rattle.tag.specs.Tags.{made_tag};
+ghost use Rattle.chip.specs.ChipModel.{model as chip_of};
+ghost use Rattle.memory.specs.ScratchpadModel.{model};
+ghost use Rattle.line.specs.TagMaking.{made_tag};
 
 use crate::fault::SampleFault;
-use kind::tags::Kind;
+use kinds::kind::Kind;
 use line::ends::OneTag;
-use number::registration::Number;
-use scratchpad::pad::PadMemory;
+use base::registration_number::RegistrationNumber;
+use memory::scratchpad_memory::ScratchpadMemory;
 use std::array;
-use tag::making::make_tag;
+use line::tag_making::make_tag;
 
 // A tag with the scratchpad protocol, which is a line of one chip.
-pub type Tag<K> = OneTag<PadMemory<K>>;
+pub type Tag<K> = OneTag<ScratchpadMemory<K>>;
 
 // A tag of any kind from its number and its image, without power.
-pub fn tag_of<K: Kind + Drop>(number: Number, image: &[u8]) -> Result<Tag<K>, SampleFault>
+pub fn tag_of<K: Kind + Drop>(number: RegistrationNumber, image: &[u8]) -> Result<Tag<K>, SampleFault>
     ensures made { IfOk result (λ t. chip_of (λ p. padded (model K.rules K.bytes p)) t.chip ≡ made_tag K.rules number.word image.now) }
     ensures ok { IsOk result ↔ (length image.now ≡ K.rules.image) }
     ensures err { IfErr result (λ e. e ≡ SampleFault.NoTag) }

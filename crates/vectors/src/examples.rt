@@ -1,15 +1,15 @@
 #[cfg(test)]
 mod tests {
-    use kind::tags::Kind;
+    use kinds::kind::Kind;
     use letters::script::play_letters;
-    use plug::practice::PracticePlug;
-    use rig::master::Rig;
+    use kinds::practice_plug::PracticePlug;
+    use rig::rig::Rig;
     use samples::fault::SampleFault;
     use samples::numbers::{number_of, plug_number};
     use samples::tags::tag_of;
-    use sealed::tag::SealedTag;
+    use kinds::sealed_tag::SealedTag;
     use std::test::Fail;
-    use sums::sums::{crc8, crc16};
+    use base::crc::{crc8, crc16};
 
     // The published check values of CRC-8/MAXIM-DOW and CRC-16/ARC, and a worked registration number.
     #[test]
@@ -40,9 +40,9 @@ mod tests {
         assert_eq!(rt; tag.load(0x81, 0x00), 0x55);
         assert_eq!(rt; tag.load(0x85, 0x00), 0x3C);
         assert_eq!(rt; tag.load(0x86, 0x00), 0x00);
-        assert!(rt; tag.copy(0x80));
-        assert!(rt; tag.copy(0x20));
-        assert!(rt; !tag.copy(0x88));
+        assert!(rt; tag.may_copy(0x80));
+        assert!(rt; tag.may_copy(0x20));
+        assert!(rt; !tag.may_copy(0x88));
         assert_eq!(rt; tag.read(0x88), 0xFF);
         Ok(())
     }

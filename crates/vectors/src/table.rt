@@ -1,5 +1,5 @@
 use std::io::{BufRead, BufReader};
-use sums::sums::{crc8, crc16};
+use base::crc::{crc8, crc16};
 
 // The value of a hexadecimal digit. No plainer by `char::to_digit(16)`: it takes lower-case letters too, which would be tested for beside it.
 pub fn digit(letter: u8) -> Option<u8> {

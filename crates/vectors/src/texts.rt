@@ -1,11 +1,11 @@
 #[cfg(test)]
 mod tests {
-    use refusals::refusal::Refusal;
+    use base::refusal::Refusal;
     use samples::fault::SampleFault;
     use samples::hex::Hex;
     use samples::refused::RefusedAt;
     use std::test::Fail;
-    use wire::fault::Refused;
+    use wire::exchange_fault::Refused;
 
     #[test]
     fn bytes_in_hex(rt: HostRuntime) -> Result<(), Fail> {

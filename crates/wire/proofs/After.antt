@@ -1,11 +1,11 @@
 -- What every job leaves of a line: chips within their bounds, and the one that has a number.
 use Rattle.std.proofs.Common.{◌≡◌, ℕ, zero, suc, ◌&&◌, List, [], ◌∷◌, map, sym, refl, ap, ◌∙◌}
-use Rattle.bits.proofs.Choice.{pick}
-use Rattle.chip.specs.Steps.{ChipState, take_bit, reset_chip, dwell_chip, cut_chip}
+use Rattle.base.proofs.Choice.{pick}
+use Rattle.chip.specs.ChipStates.{ChipState, take_bit, reset_chip, dwell_chip, cut_chip}
 use Rattle.chip.proofs.Keeps.{number-taken}
 use Rattle.chip.proofs.Sound.{Sound, SoundAll, sound_taken, sound_reset, sound_dwell, sound_cut}
 use Rattle.line.specs.Lines.{pull}
-use Rattle.rig.specs.Rigs.{RigState, FuseState, none, after, Pulse, resets, slots, dwells, act, pulse_by, pulse, refused, counted}
+use Rattle.rig.specs.Rigs.{RigState, FuseState, none, after, Pulse, reset_pulse, slot_pulse, dwell_pulse, line_after, pulse_by, pulse, refused, counted}
 use Rattle.wire.specs.Jobs.{Job, ret, step, Ran, run}
 use Rattle.wire.specs.Laws.{NoneHas, Single}
 use Rattle.wire.proofs.One.{map_mid}
@@ -36,11 +36,11 @@ module _ (x : ℕ) where
   abbrev pub OneAmong : List ChipState → Type 0
   OneAmong l = SoundAll l × Single x l
 
-  act_one : (p : Pulse) (l : List ChipState) → OneAmong l → OneAmong (act p l)
-  act_one resets l h = (sound_map reset_chip sound_reset l h.0, single_map x reset_chip (λ c. refl) l h.1)
-  act_one (slots b) l h =
+  act_one : (p : Pulse) (l : List ChipState) → OneAmong l → OneAmong (line_after p l)
+  act_one reset_pulse l h = (sound_map reset_chip sound_reset l h.0, single_map x reset_chip (λ c. refl) l h.1)
+  act_one (slot_pulse b) l h =
       (sound_map (take_bit (b && pull l)) (sound_taken (b && pull l)) l h.0, single_map x (take_bit (b && pull l)) (number-taken (b && pull l)) l h.1)
-  act_one dwells l h = (sound_map dwell_chip sound_dwell l h.0, single_map x dwell_chip (λ c. refl) l h.1)
+  act_one dwell_pulse l h = (sound_map dwell_chip sound_dwell l h.0, single_map x dwell_chip (λ c. refl) l h.1)
 
   pulse_one : (f : FuseState) (p : Pulse) (l : List ChipState) → OneAmong l → OneAmong (pulse_by f p l).0.line
   pulse_one none p l h = act_one p l h

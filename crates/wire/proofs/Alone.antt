@@ -1,16 +1,16 @@
 -- A line on which one chip talks and the others are quiet: what it sends is what is read.
 use Rattle.std.proofs.Common.{◌≡◌, ℕ, zero, suc, ◌<◌, Bool, true, false, not, ◌&&◌, ◌||◌, List, [], ◌∷◌, ◌++◌, map, length, replicate, sym, refl, ap, ◌∙◌, subst, ap₂, append_assoc}
 use mathlib.Core.Bool.{and-true, or-false}
-use Rattle.bits.specs.Bits.{bits_of, value, bits_all}
-use Rattle.bits.specs.Widths.{value_bits}
-use Rattle.kind.specs.Kinds.{Rules, Bytes}
-use Rattle.memory.specs.Scratchpads.{Regs, Awaited, Doing, idle, taking, sending, alternating, Work, on, got_byte, take_on, pull_doing, is_programming}
+use Rattle.base.specs.Bits.{bits_of, value, bits_all}
+use Rattle.base.specs.Widths.{value_bits}
+use Rattle.kinds.specs.Kinds.{Rules, Bytes}
+use Rattle.memory.specs.Scratchpads.{Regs, Awaited, Doing, idle, taking, sending, alternating, Work, on, take_byte, take_doing, pull_doing, is_programming}
 use Rattle.memory.specs.Memories.{Memory, padded}
-use Rattle.chip.specs.Chips.{Live, off, selected, command, matching, seeking}
+use Rattle.chip.specs.Chips.{Live, off, selected, command, matching, searching}
 use Rattle.chip.specs.Chips.{on as under, idle as resting, sending as saying}
-use Rattle.chip.specs.Steps.{ChipState, is_busy, pull_of, take_bit, dwell_chip}
-use Rattle.line.specs.Lines.{pull, busy}
-use Rattle.rig.specs.Rigs.{slots, dwells}
+use Rattle.chip.specs.ChipStates.{ChipState, is_busy, pull_of, take_bit, dwell_chip}
+use Rattle.line.specs.Lines.{pull, any_busy}
+use Rattle.rig.specs.Rigs.{slot_pulse, dwell_pulse}
 use Rattle.wire.specs.Jobs.{Job, step, send_bits, read_bits, read_bytes}
 use Rattle.wire.proofs.Leading.{Leads, leads_then, leads_none, leads_step}
 
@@ -21,7 +21,7 @@ QuietLive (under rc resting) = Unit {0}
 QuietLive (under rc (command bs)) = ⊥
 QuietLive (under rc (saying bs)) = ⊥
 QuietLive (under rc (matching bs)) = ⊥
-QuietLive (under rc (seeking t bs)) = ⊥
+QuietLive (under rc (searching t bs)) = ⊥
 QuietLive (under rc selected) = ⊥
 
 abbrev pub QuietAll : List ChipState → Type 0
@@ -38,7 +38,7 @@ module _ (x : ℕ) (m : Memory) where
   quiet_live b (under rc (command bs)) q = absurd q
   quiet_live b (under rc (saying bs)) q = absurd q
   quiet_live b (under rc (matching bs)) q = absurd q
-  quiet_live b (under rc (seeking t bs)) q = absurd q
+  quiet_live b (under rc (searching t bs)) q = absurd q
   quiet_live b (under rc selected) q = absurd q
 
   dwell_live : (l : Live) → QuietLive l → dwell_chip (with l) ≡ with l
@@ -47,7 +47,7 @@ module _ (x : ℕ) (m : Memory) where
   dwell_live (under rc (command bs)) q = absurd q
   dwell_live (under rc (saying bs)) q = absurd q
   dwell_live (under rc (matching bs)) q = absurd q
-  dwell_live (under rc (seeking t bs)) q = absurd q
+  dwell_live (under rc (searching t bs)) q = absurd q
   dwell_live (under rc selected) q = absurd q
 
 -- quiet chips do nothing
@@ -66,7 +66,7 @@ pub pull_quiets : (l : List ChipState) → QuietAll l → pull l ≡ true
 pull_quiets [] q = refl
 pull_quiets (c ∷ cs) q = ap₂ (λ a b. a && b) (quiet true c q.0).1 (pull_quiets cs q.1)
 
-pub busy_quiets : (l : List ChipState) → QuietAll l → busy l ≡ false
+pub busy_quiets : (l : List ChipState) → QuietAll l → any_busy l ≡ false
 busy_quiets [] q = refl
 busy_quiets (c ∷ cs) q = ap₂ (λ a b. a || b) (quiet true c q.0).2 (busy_quiets cs q.1)
 
@@ -74,7 +74,7 @@ pub pull_put : (us vs : List ChipState) (c : ChipState) → QuietAll us → Quie
 pull_put [] vs c qa qb = ap (λ b. pull_of c && b) (pull_quiets vs qb) ∙ and-true (pull_of c)
 pull_put (u ∷ us) vs c qa qb = ap₂ (λ a b. a && b) (quiet true u qa.0).1 (pull_put us vs c qa.1 qb)
 
-pub busy_put : (us vs : List ChipState) (c : ChipState) → QuietAll us → QuietAll vs → busy (us ++ (c ∷ vs)) ≡ is_busy c
+pub busy_put : (us vs : List ChipState) (c : ChipState) → QuietAll us → QuietAll vs → any_busy (us ++ (c ∷ vs)) ≡ is_busy c
 busy_put [] vs c qa qb = ap (λ b. is_busy c || b) (busy_quiets vs qb) ∙ or-false (is_busy c)
 busy_put (u ∷ us) vs c qa qb = ap₂ (λ a b. a || b) (quiet true u qa.0).2 (busy_put us vs c qa.1 qb)
 
@@ -92,7 +92,7 @@ read_quiet zero k l q = leads_none
 read_quiet (suc n) k l q =
     leads_then
     (subst (λ y. Leads (read_bits (suc n) k) l (read_bits n (λ bs. k (y ∷ bs))) (map (take_bit y) l)) (pull_quiets l q)
-    (leads_step (slots true) (λ b. read_bits n (λ bs. k (b ∷ bs))) l (busy_quiets l q)))
+    (leads_step (slot_pulse true) (λ b. read_bits n (λ bs. k (b ∷ bs))) l (busy_quiets l q)))
     (subst (λ t. Leads (read_bits n (λ bs. k (true ∷ bs))) t (k (true ∷ replicate n true)) l) (sym (take_quiets true l q))
     (read_quiet n (λ bs. k (true ∷ bs)) l q))
 
@@ -107,7 +107,7 @@ send_quiet [] k l q = leads_none
 send_quiet (b ∷ bs) k l q =
     leads_then
     (subst (λ t. Leads (send_bits (b ∷ bs) k) l (send_bits bs k) t) (take_quiets (b && pull l) l q)
-    (leads_step (slots b) (λ _. send_bits bs k) l (busy_quiets l q)))
+    (leads_step (slot_pulse b) (λ _. send_bits bs k) l (busy_quiets l q)))
     (send_quiet bs k l q)
 
 -- bits in turn, and where n of them lead
@@ -125,15 +125,15 @@ module _ (us vs : List ChipState) (qa : QuietAll us) (qb : QuietAll vs) where
 
   -- a slot with one talking chip
   pub slot_put : {A : Type 0} (b : Bool) (k : Bool → Job A) (c : ChipState) → is_busy c ≡ false
-      → Leads (step (slots b) k) (put c) (k (b && pull_of c)) (put (take_bit (b && pull_of c) c))
+      → Leads (step (slot_pulse b) k) (put c) (k (b && pull_of c)) (put (take_bit (b && pull_of c) c))
   slot_put b k c e =
-      subst (λ y. Leads (step (slots b) k) (put c) (k (b && y)) (put (take_bit (b && y) c))) (pull_put us vs c qa qb)
-      (subst (λ l. Leads (step (slots b) k) (put c) (k (b && pull (put c))) l) (take_put (b && pull (put c)) us vs c qa qb)
-      (leads_step (slots b) k (put c) (busy_put us vs c qa qb ∙ e)))
+      subst (λ y. Leads (step (slot_pulse b) k) (put c) (k (b && y)) (put (take_bit (b && y) c))) (pull_put us vs c qa qb)
+      (subst (λ l. Leads (step (slot_pulse b) k) (put c) (k (b && pull (put c))) l) (take_put (b && pull (put c)) us vs c qa qb)
+      (leads_step (slot_pulse b) k (put c) (busy_put us vs c qa qb ∙ e)))
 
   -- a dwell reaches the one chip
-  pub dwell_one : {A : Type 0} (k : Bool → Job A) (c : ChipState) → Leads (step dwells k) (put c) (k true) (put (dwell_chip c))
-  dwell_one k c = subst (λ l. Leads (step dwells k) (put c) (k true) l) (dwell_put us vs c qa qb) (leads_step dwells k (put c) refl)
+  pub dwell_one : {A : Type 0} (k : Bool → Job A) (c : ChipState) → Leads (step dwell_pulse k) (put c) (k true) (put (dwell_chip c))
+  dwell_one k c = subst (λ l. Leads (step dwell_pulse k) (put c) (k true) l) (dwell_put us vs c qa qb) (leads_step dwell_pulse k (put c) refl)
 
   module _ (K : Rules) (x : ℕ) (m : List ℕ) (rc : Bool) where
     -- a chip with this number and these bytes in the memory phase
@@ -142,14 +142,14 @@ module _ (us vs : List ChipState) (qa : QuietAll us) (qb : QuietAll vs) where
 
     -- a bit sent to a chip that pulls nothing
     one_bit : {A : Type 0} (b : Bool) (rest : List Bool) (k : Job A) (r : Regs) (d : Doing) → is_programming d ≡ false → pull_doing d ≡ true
-        → Leads (send_bits (b ∷ rest) k) (put (talking (on r d))) (send_bits rest k) (put (talking (take_on K m b r d)))
+        → Leads (send_bits (b ∷ rest) k) (put (talking (on r d))) (send_bits rest k) (put (talking (take_doing K m b r d)))
     one_bit b rest k r d e q =
-        subst (λ y. Leads (send_bits (b ∷ rest) k) (put (talking (on r d))) (send_bits rest k) (put (talking (take_on K m y r d)))) (ap (λ y. b && y) q ∙ and-true b)
+        subst (λ y. Leads (send_bits (b ∷ rest) k) (put (talking (on r d))) (send_bits rest k) (put (talking (take_doing K m y r d)))) (ap (λ y. b && y) q ∙ and-true b)
         (slot_put b (λ _. send_bits rest k) (talking (on r d)) e)
 
     eight : {A : Type 0} (b0 b1 b2 b3 b4 b5 b6 b7 : Bool) (rest : List Bool) (k : Job A) (r : Regs) (w : Awaited)
         → Leads (send_bits (b0 ∷ b1 ∷ b2 ∷ b3 ∷ b4 ∷ b5 ∷ b6 ∷ b7 ∷ rest) k) (put (talking (on r (taking w [])))) (send_bits rest k)
-        (put (talking (got_byte K m w (value (b0 ∷ b1 ∷ b2 ∷ b3 ∷ b4 ∷ b5 ∷ b6 ∷ b7 ∷ [])) r)))
+        (put (talking (take_byte K m w (value (b0 ∷ b1 ∷ b2 ∷ b3 ∷ b4 ∷ b5 ∷ b6 ∷ b7 ∷ [])) r)))
     eight b0 b1 b2 b3 b4 b5 b6 b7 rest k r w =
         (leads_then (one_bit b0 (b1 ∷ b2 ∷ b3 ∷ b4 ∷ b5 ∷ b6 ∷ b7 ∷ rest) k r (taking w ([])) refl refl)
         (leads_then (one_bit b1 (b2 ∷ b3 ∷ b4 ∷ b5 ∷ b6 ∷ b7 ∷ rest) k r (taking w (b0 ∷ [])) refl refl)
@@ -162,9 +162,9 @@ module _ (us vs : List ChipState) (qa : QuietAll us) (qb : QuietAll vs) where
 
     -- a byte arrives whole
     pub one_byte : {A : Type 0} (b : ℕ) (rest : List Bool) (k : Job A) (r : Regs) (w : Awaited) → b < 256
-        → Leads (send_bits (bits_of 8 b ++ rest) k) (put (talking (on r (taking w [])))) (send_bits rest k) (put (talking (got_byte K m w b r)))
+        → Leads (send_bits (bits_of 8 b ++ rest) k) (put (talking (on r (taking w [])))) (send_bits rest k) (put (talking (take_byte K m w b r)))
     one_byte b rest k r w h =
-        subst (λ v. Leads (send_bits (bits_of 8 b ++ rest) k) (put (talking (on r (taking w [])))) (send_bits rest k) (put (talking (got_byte K m w v r)))) (value_bits 8 b h)
+        subst (λ v. Leads (send_bits (bits_of 8 b ++ rest) k) (put (talking (on r (taking w [])))) (send_bits rest k) (put (talking (take_byte K m w v r)))) (value_bits 8 b h)
         (eight _ _ _ _ _ _ _ _ rest k r w)
 
     -- bits read from a sending chip

@@ -1,7 +1,7 @@
 -- Jobs in sequence: what a contract of a part of a job needs.
 use Rattle.std.proofs.Common.{◌≡◌, ℕ, zero, suc, Bool, true, false, List, [], ◌∷◌, sym, refl, ap, ◌∙◌}
 use mathlib.Core.Path.{fun_ext}
-use Rattle.rig.specs.Rigs.{counted, RigState, slots, pulse, refused}
+use Rattle.rig.specs.Rigs.{counted, RigState, slot_pulse, pulse, refused}
 use Rattle.wire.specs.Jobs.{Job, ret, step, Ran, Got, done, line_busy, run}
 use Rattle.wire.specs.Jobs.{send_bits, read_bits}
 
@@ -27,15 +27,15 @@ run_bind {A} {B} n (step p k) f r =
 -- the continuation style is the sequence
 pub send_bind : {A : Type 0} (bs : List Bool) (k : Job A) → send_bits bs k ≡ bind (send_bits bs (ret tt)) (λ (_ : Unit {0}). k)
 send_bind [] k = refl
-send_bind (b ∷ bs) k = ap (λ q. step (slots b) (λ _. q)) (send_bind bs k)
+send_bind (b ∷ bs) k = ap (λ q. step (slot_pulse b) (λ _. q)) (send_bind bs k)
 
 pub read_bind : {A : Type 0} (n : ℕ) (k : List Bool → Job A) → read_bits n k ≡ bind (read_bits n (λ bs. ret bs)) k
 read_bind zero k = refl
-read_bind (suc n) k = ap (step (slots true)) (fun_ext (λ b. read_bind n (λ bs. k (b ∷ bs)) ∙ again b))
+read_bind (suc n) k = ap (step (slot_pulse true)) (fun_ext (λ b. read_bind n (λ bs. k (b ∷ bs)) ∙ again b))
   where
     map-ret : {A : Type 0} (m : ℕ) (g : List Bool → List Bool) (j : List Bool → Job A) → bind (read_bits m (λ bs. ret (g bs))) j ≡ bind (read_bits m (λ bs. ret bs)) (λ bs. j (g bs))
     map-ret zero g j = refl
-    map-ret (suc m) g j = ap (step (slots true)) (fun_ext (λ b. map-ret m (λ bs. g (b ∷ bs)) j ∙ sym (map-ret m (λ bs. b ∷ bs) (λ bs. j (g bs)))))
+    map-ret (suc m) g j = ap (step (slot_pulse true)) (fun_ext (λ b. map-ret m (λ bs. g (b ∷ bs)) j ∙ sym (map-ret m (λ bs. b ∷ bs) (λ bs. j (g bs)))))
 
     again : (b : Bool) → bind (read_bits n (λ bs. ret bs)) (λ bs. k (b ∷ bs)) ≡ bind (read_bits n (λ bs. ret (b ∷ bs))) k
     again b = sym (map-ret n (λ bs. b ∷ bs) k)

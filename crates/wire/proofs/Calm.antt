@@ -2,34 +2,34 @@
 use Rattle.std.proofs.Common.{◌≡◌, ℕ, zero, suc, Bool, true, false, ◌&&◌, ◌||◌, leb, List, [], ◌∷◌, ◌++◌, map, sym, refl, ap, ◌∙◌, subst, ap₂}
 use mathlib.Core.Bool.{and-true}
 use Rattle.std.proofs.lemmas.Bool.{or_parts}
-use Rattle.bits.specs.Bits.{bits_of, bits_all, value, full}
-use Rattle.number.specs.Numbers.{word_bytes}
-use Rattle.kind.specs.Kinds.{Rules}
-use Rattle.memory.specs.Scratchpads.{Regs, Awaited, command, load_low, load_high, load_data, copy_low, copy_high, copy_status, read_low, read_high, Doing, idle, programming, taking, sending, alternating, Work, obey, command_of, take_on, is_programming, Padded}
+use Rattle.base.specs.Bits.{bits_of, bits_all, value, full}
+use Rattle.base.specs.RegistrationNumbers.{word_bytes}
+use Rattle.kinds.specs.Kinds.{Rules}
+use Rattle.memory.specs.Scratchpads.{Regs, Awaited, command, load_low, load_high, load_data, copy_low, copy_high, copy_status, read_low, read_high, Doing, idle, programming, taking, sending, alternating, Work, run_command, command_of, take_doing, is_programming, Padded}
 use Rattle.memory.specs.Memories.{Memory, padded, take_memory, programming_memory}
-use Rattle.chip.specs.Chips.{Live, off, selected, matching, seeking}
+use Rattle.chip.specs.Chips.{Live, off, selected, matching, searching}
 use Rattle.chip.specs.Chips.{on as under, idle as resting, sending as saying, command as ordering}
-use Rattle.chip.specs.Steps.{ChipState, bytes_of, is_busy, take_bit, reset_chip, cut_chip, takes, opened_as}
-use Rattle.bits.proofs.Choice.{pick}
+use Rattle.chip.specs.ChipStates.{ChipState, bytes_of, is_busy, take_bit, reset_chip, cut_chip, takes, opened_as}
+use Rattle.base.proofs.Choice.{pick}
 use Rattle.chip.proofs.Keeps.{bytes_taken, bytes_reset, bytes_cut_idle}
 use Rattle.chip.proofs.Select.{Hears, after_reset, listening, reset_free, select_some, takes-idle, takes-off, hears_idle, hears_off}
-use Rattle.line.specs.Lines.{presence, pull, busy}
-use Rattle.rig.specs.Rigs.{RigState, FuseState, none, after, Pulse, resets, slots, dwells, act, answer, deaf, pulse_by, pulse, refused, counted}
-use Rattle.rig.proofs.Unpowered.{AllOff, busy_line, off-act, off-refused, cut_off}
+use Rattle.line.specs.Lines.{presence, pull, any_busy}
+use Rattle.rig.specs.Rigs.{RigState, FuseState, none, after, Pulse, reset_pulse, slot_pulse, dwell_pulse, line_after, answer, answer_if_cut, pulse_by, pulse, refused, counted}
+use Rattle.rig.proofs.Unpowered.{AllOff, busy_line, off-line_after, off-refused, cut_off}
 use Rattle.wire.specs.Jobs.{Job, ret, step, Got, done, line_busy, Ran, run, Said, good as fine, bad as wrong, send_bits, read_bits, read_bytes, send_bytes}
 use Rattle.wire.specs.Exchanges.{Exchange, answer as answers, refuse, opening, closing, dwelling, send, read, pulses}
-use Rattle.wire.specs.declared.fault.Why.{Why}
-use Rattle.wire.specs.declared.fault.Why.TheVariants.{NoPresence}
-use Rattle.wire.proofs.Leading.{HearsAll, hears_pull, hears_busy, hears_on, map-takes, map-none, after_opening, sent-number, opened_hear}
+use Rattle.wire.specs.declared.exchange_fault.ExchangeError.{ExchangeError}
+use Rattle.wire.specs.declared.exchange_fault.ExchangeError.TheVariants.{NoPresence}
+use Rattle.wire.proofs.Leading.{HearsAll, hears_pull, hears_busy, hears_on, map-takes, map-none, after_opening, after_sent-number, opened_hear}
 use Rattle.wire.proofs.Power.{run_dead, on_step}
 
 -- 1. no byte changes
 
 abbrev pub NoDwell : {A : Type 0} → Job A → Type 0
 NoDwell (ret a) = Unit {0}
-NoDwell (step resets k) = (b : Bool) → NoDwell (k b)
-NoDwell (step (slots x) k) = (b : Bool) → NoDwell (k b)
-NoDwell (step dwells k) = ⊥
+NoDwell (step reset_pulse k) = (b : Bool) → NoDwell (k b)
+NoDwell (step (slot_pulse x) k) = (b : Bool) → NoDwell (k b)
+NoDwell (step dwell_pulse k) = ⊥
 
 pub no_send : {A : Type 0} (bs : List Bool) (k : Job A) → NoDwell k → NoDwell (send_bits bs k)
 no_send [] k h = h
@@ -53,7 +53,7 @@ Still (dwelling k) = ⊥
 Still (send xs k) = Still k
 Still (read n k) = (xs : List ℕ) → Still (k xs)
 
-pub no_dwell : {A B : Type 0} (good : A → Job B) (bad : Why → ℕ → Job B) → ((a : A) → NoDwell (good a)) → ((w : Why) (e : ℕ) → NoDwell (bad w e)) → (j : Exchange A) → Still j → NoDwell (pulses j good bad)
+pub no_dwell : {A B : Type 0} (good : A → Job B) (bad : ExchangeError → ℕ → Job B) → ((a : A) → NoDwell (good a)) → ((w : ExchangeError) (e : ℕ) → NoDwell (bad w e)) → (j : Exchange A) → Still j → NoDwell (pulses j good bad)
 no_dwell good bad g b (answers a) s = g a
 no_dwell good bad g b (refuse w e) s = b w e
 no_dwell good bad g b (opening x e k) s =
@@ -71,30 +71,30 @@ map_same f h [] = refl
 map_same f h (c ∷ cs) = ap₂ (λ x xs. x ∷ xs) (h c) (map_same f h cs)
 
 -- a cut of a line that is not busy
-cut-same : (mask : ℕ) (l : List ChipState) → busy l ≡ false → SameBytes l (map (cut_chip mask) l)
+cut-same : (mask : ℕ) (l : List ChipState) → any_busy l ≡ false → SameBytes l (map (cut_chip mask) l)
 cut-same mask [] e = refl
 cut-same mask (c ∷ cs) e = ap₂ (λ x xs. x ∷ xs) (bytes_cut_idle mask c (or_parts _ _ e).0) (cut-same mask cs (or_parts _ _ e).1)
 
 -- nor does any pulse but a dwell, whatever the fuse
 abbrev NotDwell : Pulse → Type 0
-NotDwell resets = Unit {0}
-NotDwell (slots b) = Unit {0}
-NotDwell dwells = ⊥
+NotDwell reset_pulse = Unit {0}
+NotDwell (slot_pulse b) = Unit {0}
+NotDwell dwell_pulse = ⊥
 
-act-same : (p : Pulse) (l : List ChipState) → NotDwell p → SameBytes l (act p l)
-act-same resets l h = map_same reset_chip bytes_reset l
-act-same (slots b) l h = map_same (take_bit (b && pull l)) (bytes_taken (b && pull l)) l
-act-same dwells l h = absurd h
+line_after-same : (p : Pulse) (l : List ChipState) → NotDwell p → SameBytes l (line_after p l)
+line_after-same reset_pulse l h = map_same reset_chip bytes_reset l
+line_after-same (slot_pulse b) l h = map_same (take_bit (b && pull l)) (bytes_taken (b && pull l)) l
+line_after-same dwell_pulse l h = absurd h
 
-busy-refuses : (p : Pulse) (l : List ChipState) → NotDwell p → refused p l ≡ false → busy l ≡ false
-busy-refuses resets l h e = e
-busy-refuses (slots b) l h e = e
-busy-refuses dwells l h e = absurd h
+any_busy-refuses : (p : Pulse) (l : List ChipState) → NotDwell p → refused p l ≡ false → any_busy l ≡ false
+any_busy-refuses reset_pulse l h e = e
+any_busy-refuses (slot_pulse b) l h e = e
+any_busy-refuses dwell_pulse l h e = absurd h
 
 pulse-same : (f : FuseState) (p : Pulse) (l : List ChipState) → NotDwell p → refused p l ≡ false → SameBytes l (pulse_by f p l).0.line
-pulse-same none p l h e = act-same p l h
-pulse-same (after zero mask) p l h e = cut-same mask l (busy-refuses p l h e)
-pulse-same (after (suc n) mask) p l h e = act-same p l h
+pulse-same none p l h e = line_after-same p l h
+pulse-same (after zero mask) p l h e = cut-same mask l (any_busy-refuses p l h e)
+pulse-same (after (suc n) mask) p l h e = line_after-same p l h
 
 -- a pulse and what follows it
 step_same : {A : Type 0} (n : ℕ) (p : Pulse) (k : Bool → Job A) (r : RigState) → NotDwell p
@@ -107,9 +107,9 @@ step_same n p k r h rest = go (refused p r.line) refl
 
 pub bytes_run : {A : Type 0} (n : ℕ) (p : Job A) (r : RigState) → NoDwell p → SameBytes r.line (run n p r).rig.line
 bytes_run n (ret a) r h = refl
-bytes_run n (step resets k) r h = step_same n resets k r tt (bytes_run (counted n) (k (pulse resets r).1) (pulse resets r).0 (h (pulse resets r).1))
-bytes_run n (step (slots x) k) r h = step_same n (slots x) k r tt (bytes_run (counted n) (k (pulse (slots x) r).1) (pulse (slots x) r).0 (h (pulse (slots x) r).1))
-bytes_run n (step dwells k) r h = absurd h
+bytes_run n (step reset_pulse k) r h = step_same n reset_pulse k r tt (bytes_run (counted n) (k (pulse reset_pulse r).1) (pulse reset_pulse r).0 (h (pulse reset_pulse r).1))
+bytes_run n (step (slot_pulse x) k) r h = step_same n (slot_pulse x) k r tt (bytes_run (counted n) (k (pulse (slot_pulse x) r).1) (pulse (slot_pulse x) r).0 (h (pulse (slot_pulse x) r).1))
+bytes_run n (step dwell_pulse k) r h = absurd h
 
 -- what holds of every answer that a job can give
 abbrev pub Leaves : {A : Type 0} → (A → Type 0) → Job A → Type 0
@@ -134,9 +134,9 @@ leaves_run {A} P n (step p k) r h =
 module _ {A : Type 0} (P : A → Type 0) where
   abbrev pub DwellFree : Job A → Type 0
   DwellFree (ret a) = Unit {0}
-  DwellFree (step resets k) = (b : Bool) → DwellFree (k b)
-  DwellFree (step (slots x) k) = (b : Bool) → DwellFree (k b)
-  DwellFree (step dwells k) = (b : Bool) → Leaves (λ a. P a → ⊥) (k b)
+  DwellFree (step reset_pulse k) = (b : Bool) → DwellFree (k b)
+  DwellFree (step (slot_pulse x) k) = (b : Bool) → DwellFree (k b)
+  DwellFree (step dwell_pulse k) = (b : Bool) → Leaves (λ a. P a → ⊥) (k b)
 
   abbrev pub Gets : Got A → Type 0
   Gets (done a) = P a
@@ -156,12 +156,12 @@ module _ {A : Type 0} (P : A → Type 0) where
   -- such an answer leaves all bytes
   pub bytes_unless : (n : ℕ) (p : Job A) (r : RigState) → DwellFree p → Gets (run n p r).got → SameBytes r.line (run n p r).rig.line
   bytes_unless n (ret a) r h g = refl
-  bytes_unless n (step resets k) r h g =
-      step_same n resets k r tt (bytes_unless (counted n) (k (pulse resets r).1) (pulse resets r).0 (h (pulse resets r).1) (step_gets n resets k r g))
-  bytes_unless n (step (slots x) k) r h g =
-      step_same n (slots x) k r tt (bytes_unless (counted n) (k (pulse (slots x) r).1) (pulse (slots x) r).0 (h (pulse (slots x) r).1) (step_gets n (slots x) k r g))
-  bytes_unless n (step dwells k) r h g =
-      absurd (none_got _ (leaves_run (λ a. P a → ⊥) (counted n) (k (pulse dwells r).1) (pulse dwells r).0 (h (pulse dwells r).1)) g)
+  bytes_unless n (step reset_pulse k) r h g =
+      step_same n reset_pulse k r tt (bytes_unless (counted n) (k (pulse reset_pulse r).1) (pulse reset_pulse r).0 (h (pulse reset_pulse r).1) (step_gets n reset_pulse k r g))
+  bytes_unless n (step (slot_pulse x) k) r h g =
+      step_same n (slot_pulse x) k r tt (bytes_unless (counted n) (k (pulse (slot_pulse x) r).1) (pulse (slot_pulse x) r).0 (h (pulse (slot_pulse x) r).1) (step_gets n (slot_pulse x) k r g))
+  bytes_unless n (step dwell_pulse k) r h g =
+      absurd (none_got _ (leaves_run (λ a. P a → ⊥) (counted n) (k (pulse dwell_pulse r).1) (pulse dwell_pulse r).0 (h (pulse dwell_pulse r).1)) g)
 
   free_send : (bs : List Bool) (k : Job A) → DwellFree k → DwellFree (send_bits bs k)
   free_send [] k h = h
@@ -188,7 +188,7 @@ module _ {B : Type 0} (P : B → Type 0) where
   leaves_bytes zero k h = h []
   leaves_bytes (suc n) k h = leaves_read 8 (λ bs. read_bytes n (λ xs. k (value bs ∷ xs))) (λ bs. leaves_bytes n (λ xs. k (value bs ∷ xs)) (λ xs. h (value bs ∷ xs)))
 
-  pub leaves : {A : Type 0} (good : A → Job B) (bad : Why → ℕ → Job B) → ((a : A) → Leaves P (good a)) → ((w : Why) (e : ℕ) → Leaves P (bad w e)) → (j : Exchange A) → Leaves P (pulses j good bad)
+  pub leaves : {A : Type 0} (good : A → Job B) (bad : ExchangeError → ℕ → Job B) → ((a : A) → Leaves P (good a)) → ((w : ExchangeError) (e : ℕ) → Leaves P (bad w e)) → (j : Exchange A) → Leaves P (pulses j good bad)
   leaves good bad g b (answers a) = g a
   leaves good bad g b (refuse w e) = b w e
   leaves good bad g b (opening x e k) =
@@ -199,7 +199,7 @@ module _ {B : Type 0} (P : B → Type 0) where
   leaves good bad g b (read n k) = leaves_bytes n (λ xs. pulses (k xs) good bad) (λ xs. leaves good bad g b (k xs))
 
 -- an exchange after whose dwells P holds of no answer
-module _ {A B : Type 0} (P : B → Type 0) (good : A → Job B) (bad : Why → ℕ → Job B) (free : (a : A) → DwellFree P (good a)) (fails : (w : Why) (e : ℕ) → DwellFree P (bad w e)) where
+module _ {A B : Type 0} (P : B → Type 0) (good : A → Job B) (bad : ExchangeError → ℕ → Job B) (free : (a : A) → DwellFree P (good a)) (fails : (w : ExchangeError) (e : ℕ) → DwellFree P (bad w e)) where
   abbrev pub Parted : Exchange A → Type 0
   Parted (answers a) = Unit {0}
   Parted (refuse w e) = Unit {0}
@@ -236,19 +236,19 @@ module _ {A B : Type 0} (P : B → Type 0) (good : A → Job B) (bad : Why → �
 
 -- a line that is ready for a pulse: it is not busy, or, at a dwell, as D says
 abbrev pub Ready : (List ChipState → Type 0) → Pulse → List ChipState → Type 0
-Ready D resets l = busy l ≡ false
-Ready D (slots b) l = busy l ≡ false
-Ready D dwells l = D l
+Ready D reset_pulse l = any_busy l ≡ false
+Ready D (slot_pulse b) l = any_busy l ≡ false
+Ready D dwell_pulse l = D l
 
 pub ready_free : (D : List ChipState → Type 0) (p : Pulse) (l : List ChipState) → Ready D p l → refused p l ≡ false
-ready_free D resets l h = h
-ready_free D (slots b) l h = h
-ready_free D dwells l h = refl
+ready_free D reset_pulse l h = h
+ready_free D (slot_pulse b) l h = h
+ready_free D dwell_pulse l h = refl
 
 -- every pulse of a job finds the line ready, and Q holds of the line at its end
 abbrev pub Meets : (D Q : List ChipState → Type 0) → {A : Type 0} → Job A → List ChipState → Type 0
 Meets D Q (ret a) l = Q l
-Meets D Q (step p k) l = Ready D p l × Meets D Q (k (answer p l)) (act p l)
+Meets D Q (step p k) l = Ready D p l × Meets D Q (k (answer p l)) (line_after p l)
 
 abbrev pub Anyhow : List ChipState → Type 0
 Anyhow l = Unit {0}
@@ -258,20 +258,20 @@ Unrefused p l = Meets Anyhow Anyhow p l
 
 -- and no chip programs at its end
 abbrev pub Free : List ChipState → Type 0
-Free l = busy l ≡ false
+Free l = any_busy l ≡ false
 
 abbrev pub Freed : (List ChipState → Type 0) → {A : Type 0} → Job A → List ChipState → Type 0
 Freed D p l = Meets D Free p l
 
 module _ (D : List ChipState → Type 0) where
   ready_anyhow : (p : Pulse) (l : List ChipState) → Ready D p l → Ready Anyhow p l
-  ready_anyhow resets l h = h
-  ready_anyhow (slots b) l h = h
-  ready_anyhow dwells l h = tt
+  ready_anyhow reset_pulse l h = h
+  ready_anyhow (slot_pulse b) l h = h
+  ready_anyhow dwell_pulse l h = tt
 
   pub freed_unrefused : {A : Type 0} (p : Job A) (l : List ChipState) → Freed D p l → Unrefused p l
   freed_unrefused (ret a) l u = tt
-  freed_unrefused (step p k) l u = (ready_anyhow p l u.0, freed_unrefused (k (answer p l)) (act p l) u.1)
+  freed_unrefused (step p k) l u = (ready_anyhow p l u.0, freed_unrefused (k (answer p l)) (line_after p l) u.1)
 
 -- then none is, whatever the fuse
 abbrev pub Ended : {A : Type 0} → Got A → Type 0
@@ -281,11 +281,11 @@ Ended line_busy = ⊥
 pub unrefused_run : {A : Type 0} (n : ℕ) (p : Job A) (l : List ChipState) (f : FuseState) → Unrefused p l → Ended (run n p (record { line = l; fuse = f })).got
 unrefused_run n (ret a) l f u = tt
 unrefused_run n (step p k) l f u =
-    subst (λ t. Ended (on_step n p k (record { line = l; fuse = f }) t).got) (sym (ready_free Anyhow p l u.0)) (go f (λ g. unrefused_run (counted n) (k (answer p l)) (act p l) g u.1))
+    subst (λ t. Ended (on_step n p k (record { line = l; fuse = f }) t).got) (sym (ready_free Anyhow p l u.0)) (go f (λ g. unrefused_run (counted n) (k (answer p l)) (line_after p l) g u.1))
   where
-    go : (g : FuseState) → ((g : FuseState) → Ended (run (counted n) (k (answer p l)) (record { line = act p l; fuse = g })).got) → Ended (run (counted n) (k (pulse p (record { line = l; fuse = g })).1) (pulse p (record { line = l; fuse = g })).0).got
+    go : (g : FuseState) → ((g : FuseState) → Ended (run (counted n) (k (answer p l)) (record { line = line_after p l; fuse = g })).got) → Ended (run (counted n) (k (pulse p (record { line = l; fuse = g })).1) (pulse p (record { line = l; fuse = g })).0).got
     go none ih = ih none
-    go (after zero m) ih = subst Ended (sym (run_dead (counted n) (k (deaf p)) (map (cut_chip m) l) (cut_off m l))) tt
+    go (after zero m) ih = subst Ended (sym (run_dead (counted n) (k (answer_if_cut p)) (map (cut_chip m) l) (cut_off m l))) tt
     go (after (suc j) m) ih = ih (after j m)
 
 -- a line without power stays so
@@ -293,11 +293,11 @@ run_off : {A : Type 0} (n : ℕ) (p : Job A) (l : List ChipState) → AllOff l �
 run_off n (ret a) l o = refl
 run_off n (step p k) l o =
     ap (λ t. (on_step n p k (record { line = l; fuse = none }) t).rig.line) (off-refused p l o)
-    ∙ run_off (counted n) (k (answer p l)) (act p l) (subst AllOff (sym (off-act p l o)) o) ∙ off-act p l o
+    ∙ run_off (counted n) (k (answer p l)) (line_after p l) (subst AllOff (sym (off-line_after p l o)) o) ∙ off-line_after p l o
 
 -- whichever step is cut, Q holds of the line then, if it holds of a line without power,
 -- and so does P, if pulses and cuts of a line that is ready keep it
-module _ (D Q P : List ChipState → Type 0) (offs : (l : List ChipState) → AllOff l → Q l) (acts : (p : Pulse) (l : List ChipState) → Ready D p l → P l → P (act p l))
+module _ (D Q P : List ChipState → Type 0) (offs : (l : List ChipState) → AllOff l → Q l) (acts : (p : Pulse) (l : List ChipState) → Ready D p l → P l → P (line_after p l))
     (cuts : (p : Pulse) (m : ℕ) (l : List ChipState) → Ready D p l → P l → P (map (cut_chip m) l)) where
   abbrev Both : List ChipState → Type 0
   Both l = Q l × P l
@@ -305,12 +305,12 @@ module _ (D Q P : List ChipState → Type 0) (offs : (l : List ChipState) → Al
   pub meets_run : {A : Type 0} (n : ℕ) (p : Job A) (l : List ChipState) (f : FuseState) → Meets D Q p l → P l → Both (run n p (record { line = l; fuse = f })).rig.line
   meets_run n (ret a) l f u h = (u, h)
   meets_run n (step p k) l f u h =
-      subst (λ t. Both (on_step n p k (record { line = l; fuse = f }) t).rig.line) (sym (ready_free D p l u.0)) (go f (λ g. meets_run (counted n) (k (answer p l)) (act p l) g u.1 (acts p l u.0 h)))
+      subst (λ t. Both (on_step n p k (record { line = l; fuse = f }) t).rig.line) (sym (ready_free D p l u.0)) (go f (λ g. meets_run (counted n) (k (answer p l)) (line_after p l) g u.1 (acts p l u.0 h)))
     where
-      go : (g : FuseState) → ((g : FuseState) → Both (run (counted n) (k (answer p l)) (record { line = act p l; fuse = g })).rig.line) → Both (run (counted n) (k (pulse p (record { line = l; fuse = g })).1) (pulse p (record { line = l; fuse = g })).0).rig.line
+      go : (g : FuseState) → ((g : FuseState) → Both (run (counted n) (k (answer p l)) (record { line = line_after p l; fuse = g })).rig.line) → Both (run (counted n) (k (pulse p (record { line = l; fuse = g })).1) (pulse p (record { line = l; fuse = g })).0).rig.line
       go none ih = ih none
       go (after zero m) ih =
-          subst Both (sym (run_off (counted n) (k (deaf p)) (map (cut_chip m) l) (cut_off m l))) (offs (map (cut_chip m) l) (cut_off m l), cuts p m l u.0 h)
+          subst Both (sym (run_off (counted n) (k (answer_if_cut p)) (map (cut_chip m) l) (cut_off m l))) (offs (map (cut_chip m) l) (cut_off m l), cuts p m l u.0 h)
       go (after (suc j) m) ih = ih (after j m)
 
 pub freed_run : (D : List ChipState → Type 0) {A : Type 0} (n : ℕ) (p : Job A) (l : List ChipState) (f : FuseState) → Freed D p l → Free (run n p (record { line = l; fuse = f })).rig.line
@@ -344,7 +344,7 @@ CalmIn (under rc resting) m = Unit {0}
 CalmIn (under rc (ordering bs)) m = ⊥
 CalmIn (under rc (saying bs)) m = ⊥
 CalmIn (under rc (matching bs)) m = ⊥
-CalmIn (under rc (seeking t bs)) m = ⊥
+CalmIn (under rc (searching t bs)) m = ⊥
 CalmIn (under rc selected) m = CalmMemory m
 
 abbrev pub CalmChip : ChipState → Type 0
@@ -360,7 +360,7 @@ CalmWork w = CalmDoing w.doing
 calm_taking : (p : Padded) (b : Bool) → CalmDoing p.work.doing → CalmMemory (take_memory (padded p) b)
 calm_taking p b h = go p.work.doing h
   where
-    go : (d : Doing) → CalmDoing d → CalmWork (take_on p.rules p.bytes b p.work.regs d)
+    go : (d : Doing) → CalmDoing d → CalmWork (take_doing p.rules p.bytes b p.work.regs d)
     go idle h = tt
     go programming h = absurd h
     go (taking command bs) h = absurd h
@@ -398,13 +398,13 @@ module _ (x : ℕ) (m : Memory) where
   calm_live b (under rc (ordering bs)) h = absurd h
   calm_live b (under rc (saying bs)) h = absurd h
   calm_live b (under rc (matching bs)) h = absurd h
-  calm_live b (under rc (seeking t bs)) h = absurd h
+  calm_live b (under rc (searching t bs)) h = absurd h
   calm_live b (under rc selected) h = (calm_memory m b h, calm_programs m h)
 
 calm : (b : Bool) (c : ChipState) → CalmChip c → CalmChip (take_bit b c) × (is_busy c ≡ false)
 calm b c h = calm_live c.number c.memory b c.live h
 
-pub calm_busy : (l : List ChipState) → CalmAll l → busy l ≡ false
+pub calm_busy : (l : List ChipState) → CalmAll l → any_busy l ≡ false
 calm_busy [] h = refl
 calm_busy (c ∷ cs) h = ap₂ (λ a b. a || b) (calm true c h.0).1 (calm_busy cs h.1)
 
@@ -413,7 +413,7 @@ calm_take b [] h = tt
 calm_take b (c ∷ cs) h = ((calm b c h.0).0, calm_take b cs h.1)
 
 -- nor does a reset
-pub busy_reset : (l : List ChipState) → busy l ≡ false → busy (map reset_chip l) ≡ false
+pub busy_reset : (l : List ChipState) → any_busy l ≡ false → any_busy (map reset_chip l) ≡ false
 busy_reset [] e = refl
 busy_reset (c ∷ cs) e = ap₂ (λ a b. a || b) (ap is_busy (reset_free c (or_parts _ _ e).0) ∙ go c.live) (busy_reset cs (or_parts _ _ e).1)
   where
@@ -442,7 +442,7 @@ abbrev pub BegunAll : List ChipState → Type 0
 BegunAll [] = Unit {0}
 BegunAll (d ∷ ds) = Begun d × BegunAll ds
 
-all_begun : (x : ℕ) (l : List ChipState) → busy l ≡ false → BegunAll (map (takes (bits_of 8 0x55 ++ bits_of 64 x)) (map reset_chip l))
+all_begun : (x : ℕ) (l : List ChipState) → any_busy l ≡ false → BegunAll (map (takes (bits_of 8 0x55 ++ bits_of 64 x)) (map reset_chip l))
 all_begun x [] e = tt
 all_begun x (c ∷ cs) e = let s = select_some x c (or_parts _ _ e).0 in ((c, s.0, s.1), all_begun x cs (or_parts _ _ e).1)
 
@@ -463,23 +463,23 @@ module _ (D : List ChipState → Type 0) where
       calm_read 8 (λ bs. read_bytes n (λ xs. k (value bs ∷ xs))) l h (λ bs l' h'. calm_bytes n (λ xs. k (value bs ∷ xs)) l' h' (λ xs l'' h''. u (value bs ∷ xs) l'' h''))
 
   -- an exchange opens: no pulse is refused, and then it has begun for each chip
-  pub opening_at : {B : Type 0} (x : ℕ) (k nope : Job B) (l : List ChipState) → busy l ≡ false
-      → ((l' : List ChipState) → busy l' ≡ false → Freed D nope l') → (BegunAll (map (takes (bits_of 8 0x55 ++ bits_of 64 x)) (map reset_chip l)) → Freed D k (map (takes (bits_of 8 0x55 ++ bits_of 64 x)) (map reset_chip l))) → Freed D (step resets (after_opening x k nope)) l
+  pub opening_at : {B : Type 0} (x : ℕ) (k nope : Job B) (l : List ChipState) → any_busy l ≡ false
+      → ((l' : List ChipState) → any_busy l' ≡ false → Freed D nope l') → (BegunAll (map (takes (bits_of 8 0x55 ++ bits_of 64 x)) (map reset_chip l)) → Freed D k (map (takes (bits_of 8 0x55 ++ bits_of 64 x)) (map reset_chip l))) → Freed D (step reset_pulse (after_opening x k nope)) l
   opening_at x k nope l e un uk = (
     e,
     pick (presence l) (λ j. Freed D j (map reset_chip l))
-        (subst (λ j. Freed D j (map reset_chip l)) (sym (sent-number x k))
+        (subst (λ j. Freed D j (map reset_chip l)) (sym (after_sent-number x k))
         (heard_to D Free (bits_of 8 0x55 ++ bits_of 64 x) k (map reset_chip l) (opened_hear x l e) (uk (all_begun x l e))))
         (un (map reset_chip l) (busy_reset l e)),
   )
 
-  pub freed_opening : {B : Type 0} (x : ℕ) (k nope : Job B) (l : List ChipState) → busy l ≡ false
-      → ((l' : List ChipState) → busy l' ≡ false → Freed D nope l') → ((l' : List ChipState) → BegunAll l' → Freed D k l') → Freed D (step resets (after_opening x k nope)) l
+  pub freed_opening : {B : Type 0} (x : ℕ) (k nope : Job B) (l : List ChipState) → any_busy l ≡ false
+      → ((l' : List ChipState) → any_busy l' ≡ false → Freed D nope l') → ((l' : List ChipState) → BegunAll l' → Freed D k l') → Freed D (step reset_pulse (after_opening x k nope)) l
   freed_opening x k nope l e un uk = opening_at x k nope l e un (uk (map (takes (bits_of 8 0x55 ++ bits_of 64 x)) (map reset_chip l)))
 
 -- a command that leads to sending or to the address of F0h
 abbrev pub Harmless : ℕ → Type 0
-Harmless b = (K : Rules) (m : List ℕ) (r : Regs) → CalmWork (obey K m (command_of (value (bits_of 8 b))) r)
+Harmless b = (K : Rules) (m : List ℕ) (r : Regs) → CalmWork (run_command K m (command_of (value (bits_of 8 b))) r)
 
 -- bits that every chip hears once an exchange has begun
 module _ (bs : List Bool) (heard : (x : ℕ) (m : Memory) → Hears bs (listening x m)) where

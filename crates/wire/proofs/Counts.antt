@@ -1,9 +1,9 @@
 -- How many steps lead to an answer.
 use Rattle.std.proofs.Common.{◌≡◌, ℕ, zero, suc, ◌+◌, ◌*◌, ◌<◌, Bool, true, false, List, [], ◌∷◌, length, sym, subst, arith}
-use Rattle.bits.specs.Bits.{bits_all, value}
-use Rattle.number.specs.Numbers.{word_bytes}
-use Rattle.bits.proofs.Choice.{pick}
-use Rattle.rig.specs.Rigs.{RigState, Pulse, resets, slots, refused, pulse, counted}
+use Rattle.base.specs.Bits.{bits_all, value}
+use Rattle.base.specs.RegistrationNumbers.{word_bytes}
+use Rattle.base.proofs.Choice.{pick}
+use Rattle.rig.specs.Rigs.{RigState, Pulse, reset_pulse, slot_pulse, refused, pulse, counted}
 use Rattle.wire.specs.Jobs.{Job, ret, step, Got, done, line_busy, Ran, run, send_bits, read_bits, read_bytes, send_bytes}
 use Rattle.wire.proofs.Leading.{after_opening}
 
@@ -32,13 +32,13 @@ module _ {A : Type 0} (P : ℕ → A → Type 0) where
   at-send [] k K h g = let e : k + 0 ≡ k = omega arith in subst (λ n. LeavesAt n K) e g
   at-send (b ∷ bs) k K h g =
       let e : k + length (b ∷ bs) ≡ k + 1 + length bs = omega arith in
-      at-step (slots b) k (λ _. send_bits bs K) (omega arith) (λ _. at-send bs (k + 1) K (omega arith) (subst (λ n. LeavesAt n K) e g))
+      at-step (slot_pulse b) k (λ _. send_bits bs K) (omega arith) (λ _. at-send bs (k + 1) K (omega arith) (subst (λ n. LeavesAt n K) e g))
 
   pub at_read : (n k : ℕ) (K : List Bool → Job A) → k + n < 4294967295 → ((bs : List Bool) → LeavesAt (k + n) (K bs)) → LeavesAt k (read_bits n K)
   at_read zero k K h g = let e : k + 0 ≡ k = omega arith in subst (λ n. LeavesAt n (K [])) e (g [])
   at_read (suc n) k K h g =
       let e : k + suc n ≡ k + 1 + n = omega arith in
-      at-step (slots true) k (λ b. read_bits n (λ bs. K (b ∷ bs))) (omega arith) (λ b. at_read n (k + 1) (λ bs. K (b ∷ bs)) (omega arith) (λ bs. subst (λ n. LeavesAt n (K (b ∷ bs))) e (g (b ∷ bs))))
+      at-step (slot_pulse true) k (λ b. read_bits n (λ bs. K (b ∷ bs))) (omega arith) (λ b. at_read n (k + 1) (λ bs. K (b ∷ bs)) (omega arith) (λ bs. subst (λ n. LeavesAt n (K (b ∷ bs))) e (g (b ∷ bs))))
 
   pub at_bytes : (n k : ℕ) (K : List ℕ → Job A) → k + 8 * n < 4294967295 → ((xs : List ℕ) → LeavesAt (k + 8 * n) (K xs)) → LeavesAt k (read_bytes n K)
   at_bytes zero k K h g = let e : k + 8 * 0 ≡ k = omega arith in subst (λ n. LeavesAt n (K [])) e (g [])
@@ -48,8 +48,8 @@ module _ {A : Type 0} (P : ℕ → A → Type 0) where
       (λ bs. at_bytes n (k + 8) (λ xs. K (value bs ∷ xs)) (omega arith) (λ xs. subst (λ n. LeavesAt n (K (value bs ∷ xs))) e (g (value bs ∷ xs))))
 
   -- a reset, 55h and a number are 73 steps
-  pub at-opening : (x k : ℕ) (K nope : Job A) → k + 73 < 4294967295 → LeavesAt (k + 73) K → LeavesAt (k + 1) nope → LeavesAt k (step resets (after_opening x K nope))
-  at-opening x k K nope h g z = at-step resets k (after_opening x K nope) (omega arith) go
+  pub at-opening : (x k : ℕ) (K nope : Job A) → k + 73 < 4294967295 → LeavesAt (k + 73) K → LeavesAt (k + 1) nope → LeavesAt k (step reset_pulse (after_opening x K nope))
+  at-opening x k K nope h g z = at-step reset_pulse k (after_opening x K nope) (omega arith) go
     where
       e : k + 73 ≡ k + 1 + 8 + 64
       e = omega arith

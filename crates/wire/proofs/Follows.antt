@@ -1,26 +1,26 @@
 -- An exchange's outcome is the run of its pulses.
 use Rattle.std.proofs.Common.{◌≡◌, ℕ, zero, suc, Bool, true, false, cond, List, [], ◌∷◌, Ok, Err, Result, sym, refl, ap, ◌∙◌}
-use Rattle.bits.specs.Bits.{bits_all, value}
-use Rattle.number.specs.Numbers.{word_bytes}
-use Rattle.rig.specs.Rigs.{RigState, Pulse, resets, slots, dwells, pulse, refused, counted}
+use Rattle.base.specs.Bits.{bits_all, value}
+use Rattle.base.specs.RegistrationNumbers.{word_bytes}
+use Rattle.rig.specs.Rigs.{RigState, Pulse, reset_pulse, slot_pulse, dwell_pulse, pulse, refused, counted}
 use Rattle.wire.specs.Jobs.{Job, ret, step, Ran, Got, done, line_busy, run, send_bytes, read_bytes}
 use Rattle.wire.proofs.Steps.{under}
 use Rattle.wire.proofs.Bind.{bind, run_bind, send_bind, onward as after}
-use Rattle.rig.specs.Meaning.{Counting, beat}
-use Rattle.rig.specs.declared.fault.RigFault.{RigFault}
-use Rattle.rig.specs.declared.fault.RigFault.TheVariants.{LineBusy}
-use Rattle.wire.specs.Wires.{outcome, does, onward, onwards, keep, sends, reads}
-use Rattle.wire.specs.declared.fault.Why.{Why}
-use Rattle.wire.specs.declared.fault.Why.TheVariants.{NoPresence}
-use Rattle.wire.specs.declared.fault.ExchangeFault.{ExchangeFault}
-use Rattle.wire.specs.declared.fault.ExchangeFault.TheVariants.{Rig, Failed}
+use Rattle.rig.specs.RigModel.{Counting, counted_pulse}
+use Rattle.rig.specs.declared.rig_fault.RigFault.{RigFault}
+use Rattle.rig.specs.declared.rig_fault.RigFault.TheVariants.{LineBusy}
+use Rattle.wire.specs.Outcomes.{outcome, does, onward, onwards, keep, sends, reads}
+use Rattle.wire.specs.declared.exchange_fault.ExchangeError.{ExchangeError}
+use Rattle.wire.specs.declared.exchange_fault.ExchangeError.TheVariants.{NoPresence}
+use Rattle.wire.specs.declared.exchange_fault.ExchangeFault.{ExchangeFault}
+use Rattle.wire.specs.declared.exchange_fault.ExchangeFault.TheVariants.{Rig, Failed}
 use Rattle.wire.specs.Exchanges.{Exchange, answer, refuse, opening, closing, dwelling, send, read, tells, pulses, Told}
 
 bytes_bind : {A : Type 0} (n : ℕ) (f : List ℕ → List ℕ) (k : List ℕ → Job A) → read_bytes n (λ xs. k (f xs)) ≡ bind (read_bytes n (λ xs. ret (f xs))) k
 bytes_bind zero f k = refl
 bytes_bind (suc n) f k =
-    under (slots true) _ _ (λ a. under (slots true) _ _ (λ b. under (slots true) _ _ (λ c. under (slots true) _ _ (λ d.
-    under (slots true) _ _ (λ e. under (slots true) _ _ (λ g. under (slots true) _ _ (λ h. under (slots true) _ _ (λ i.
+    under (slot_pulse true) _ _ (λ a. under (slot_pulse true) _ _ (λ b. under (slot_pulse true) _ _ (λ c. under (slot_pulse true) _ _ (λ d.
+    under (slot_pulse true) _ _ (λ e. under (slot_pulse true) _ _ (λ g. under (slot_pulse true) _ _ (λ h. under (slot_pulse true) _ _ (λ i.
     bytes_bind n (λ xs. f (value (a ∷ b ∷ c ∷ d ∷ e ∷ g ∷ h ∷ i ∷ []) ∷ xs)) k))))))))
 
 -- what comes after an outcome
@@ -28,12 +28,12 @@ abbrev pub past : {A B : Type 0} → Counting → Result A RigFault → (A → C
 past d (Ok a) rest = rest a d
 past d (Err LineBusy) rest = record { rig = d.rig; steps = d.steps; got = line_busy }
 
-abbrev pub follow : {A B : Type 0} → (A → Job B) → (Why → ℕ → Job B) → Counting → Result A ExchangeFault → Ran B
+abbrev pub follow : {A B : Type 0} → (A → Job B) → (ExchangeError → ℕ → Job B) → Counting → Result A ExchangeFault → Ran B
 follow good bad d (Ok a) = run d.steps (good a) d.rig
 follow good bad d (Err (Rig LineBusy)) = record { rig = d.rig; steps = d.steps; got = line_busy }
-follow good bad d (Err (Failed why e s)) = run s (bad why e) d.rig
+follow good bad d (Err (Failed error e s)) = run s (bad error e) d.rig
 
-pub run_step : {B : Type 0} (p : Pulse) (k : Bool → Job B) (d : Counting) → run d.steps (step p k) d.rig ≡ past (beat p d).0 (beat p d).1 (λ b e. run e.steps (k b) e.rig)
+pub run_step : {B : Type 0} (p : Pulse) (k : Bool → Job B) (d : Counting) → run d.steps (step p k) d.rig ≡ past (counted_pulse p d).0 (counted_pulse p d).1 (λ b e. run e.steps (k b) e.rig)
 run_step {B} p k d =
     elim (refused p d.rig.line) as (λ t.
     (elim t as (λ _. Ran B) [ true ↦ record { rig = d.rig; steps = d.steps; got = line_busy } | false ↦ run (counted d.steps) (k (pulse p d.rig).1) (pulse p d.rig).0 ])
@@ -62,7 +62,7 @@ run-read n k d = ap (λ p. run d.steps p d.rig) (bytes_bind n (λ xs. xs) k) ∙
 abbrev fine : Counting → Counting × Result (Unit {0}) ExchangeFault
 fine e = (e, Ok tt)
 
-module _ {A B : Type 0} (good : A → Job B) (bad : Why → ℕ → Job B) where
+module _ {A B : Type 0} (good : A → Job B) (bad : ExchangeError → ℕ → Job B) where
   -- the rest after a part that the rig may refuse
   abbrev ends : Counting × Result A ExchangeFault → Ran B
   ends s = follow good bad s.0 s.1
@@ -79,11 +79,11 @@ module _ {A B : Type 0} (good : A → Job B) (bad : Why → ℕ → Job B) where
 
   pub run_exchange : (j : Exchange A) (d : Counting) → run d.steps (pulses j good bad) d.rig ≡ ends (tells j d)
   run_exchange (answer a) d = refl
-  run_exchange (refuse why e) d = refl
+  run_exchange (refuse error e) d = refl
   run_exchange (closing k) d =
-      run_step resets (λ b. pulses (k b) good bad) d
-      ∙ past_on (beat resets d).0 (beat resets d).1 (λ b e. run e.steps (pulses (k b) good bad) e.rig) (λ b e. tells (k b) e) (λ b e. run_exchange (k b) e)
-  run_exchange (dwelling k) d = run_exchange k (record { rig = (pulse dwells d.rig).0; steps = counted d.steps })
+      run_step reset_pulse (λ b. pulses (k b) good bad) d
+      ∙ past_on (counted_pulse reset_pulse d).0 (counted_pulse reset_pulse d).1 (λ b e. run e.steps (pulses (k b) good bad) e.rig) (λ b e. tells (k b) e) (λ b e. run_exchange (k b) e)
+  run_exchange (dwelling k) d = run_exchange k (record { rig = (pulse dwell_pulse d.rig).0; steps = counted d.steps })
   run_exchange (send xs k) d =
       run-send xs (pulses k good bad) d
       ∙ past_on (does (sends xs) d).0 (does (sends xs) d).1 (λ _ e. run e.steps (pulses k good bad) e.rig) (λ _ e. tells k e) (λ _ e. run_exchange k e)
@@ -91,9 +91,9 @@ module _ {A B : Type 0} (good : A → Job B) (bad : Why → ℕ → Job B) where
       run-read n (λ xs. pulses (k xs) good bad) d
       ∙ past_on (does (reads n) d).0 (does (reads n) d).1 (λ xs e. run e.steps (pulses (k xs) good bad) e.rig) (λ xs e. tells (k xs) e) (λ xs e. run_exchange (k xs) e)
   run_exchange (opening x e k) d =
-      run_step resets opened d
-      ∙ past_on (beat resets d).0 (beat resets d).1 (λ b s. run s.steps (opened b) s.rig) (λ b s. onward keep (begun b s) (λ _ s. tells k s)) (each (λ s. run_exchange k s))
-      ∙ ap ends (through (beat resets d).0 (beat resets d).1)
+      run_step reset_pulse opened d
+      ∙ past_on (counted_pulse reset_pulse d).0 (counted_pulse reset_pulse d).1 (λ b s. run s.steps (opened b) s.rig) (λ b s. onward keep (begun b s) (λ _ s. tells k s)) (each (λ s. run_exchange k s))
+      ∙ ap ends (through (counted_pulse reset_pulse d).0 (counted_pulse reset_pulse d).1)
     where
       opened : Bool → Job B
       opened b = elim b [ true ↦ send_bytes (0x55 ∷ []) (send_bytes (word_bytes x) (pulses k good bad)) | false ↦ bad NoPresence e ]

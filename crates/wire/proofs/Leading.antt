@@ -3,13 +3,13 @@ use Rattle.std.proofs.Common.{◌≡◌, ℕ, zero, suc, ◌+◌, ◌*◌, ◌/�
 use mathlib.Core.Bool.{and-true}
 use native.Mathlib.Nat.{div-div-eq-div-mul}
 use Rattle.std.proofs.lemmas.Bool.{or_parts}
-use Rattle.bits.specs.Bits.{bits_of, bits_all, byte_of}
-use Rattle.bits.proofs.Queues.{bits_block}
-use Rattle.number.specs.Numbers.{word_bytes}
-use Rattle.chip.specs.Steps.{ChipState, take_bit, reset_chip, takes, opened_by}
+use Rattle.base.specs.Bits.{bits_of, bits_all, byte_of}
+use Rattle.base.proofs.Queues.{bits_block}
+use Rattle.base.specs.RegistrationNumbers.{word_bytes}
+use Rattle.chip.specs.ChipStates.{ChipState, take_bit, reset_chip, takes, opened_by}
 use Rattle.chip.proofs.Select.{Hears, select_hears, select-takes}
-use Rattle.line.specs.Lines.{presence, pull, busy}
-use Rattle.rig.specs.Rigs.{RigState, none, Pulse, resets, slots, act, answer, refused, counted}
+use Rattle.line.specs.Lines.{presence, pull, any_busy}
+use Rattle.rig.specs.Rigs.{RigState, none, Pulse, reset_pulse, slot_pulse, line_after, answer, refused, counted}
 use Rattle.wire.specs.Jobs.{Job, step, Ran, line_busy, run, send_bits, send_bytes}
 
 -- the rig with no fuse
@@ -27,8 +27,8 @@ pub leads_none : {A : Type 0} {p : Job A} {l : List ChipState} → Leads p l p l
 leads_none = record { so = λ n. (n, refl) }
 
 -- any pulse that is not refused
-pub leads_step : {A : Type 0} (p : Pulse) (k : Bool → Job A) (l : List ChipState) → refused p l ≡ false → Leads (step p k) l (k (answer p l)) (act p l)
-leads_step {A} p k l e = record { so = λ n. (counted n, ap (λ t. elim t as (λ _. Ran A) [ true ↦ record { rig = free l; steps = n; got = line_busy } | false ↦ run (counted n) (k (answer p l)) (free (act p l)) ]) e) }
+pub leads_step : {A : Type 0} (p : Pulse) (k : Bool → Job A) (l : List ChipState) → refused p l ≡ false → Leads (step p k) l (k (answer p l)) (line_after p l)
+leads_step {A} p k l e = record { so = λ n. (counted n, ap (λ t. elim t as (λ _. Ran A) [ true ↦ record { rig = free l; steps = n; got = line_busy } | false ↦ run (counted n) (k (answer p l)) (free (line_after p l)) ]) e) }
 
 abbrev pub HearsAll : List Bool → List ChipState → Type 0
 HearsAll bs [] = Unit {0}
@@ -38,7 +38,7 @@ pub hears_pull : (b : Bool) (bs : List Bool) (l : List ChipState) → HearsAll (
 hears_pull b bs [] h = refl
 hears_pull b bs (c ∷ cs) h = ap₂ (λ u v. u && v) h.0.0 (hears_pull b bs cs h.1)
 
-pub hears_busy : (b : Bool) (bs : List Bool) (l : List ChipState) → HearsAll (b ∷ bs) l → busy l ≡ false
+pub hears_busy : (b : Bool) (bs : List Bool) (l : List ChipState) → HearsAll (b ∷ bs) l → any_busy l ≡ false
 hears_busy b bs [] h = refl
 hears_busy b bs (c ∷ cs) h = ap₂ (λ u v. u || v) h.0.1 (hears_busy b bs cs h.1)
 
@@ -60,12 +60,12 @@ send_all [] k l h = subst (λ t. Leads k l k t) (sym (map-none l)) leads_none
 send_all (b ∷ bs) k l h =
     leads_then
     (subst (λ y. Leads (send_bits (b ∷ bs) k) l (send_bits bs k) (map (take_bit y) l)) (ap (λ y. b && y) (hears_pull b bs l h) ∙ and-true b)
-    (leads_step (slots b) (λ _. send_bits bs k) l (hears_busy b bs l h)))
+    (leads_step (slot_pulse b) (λ _. send_bits bs k) l (hears_busy b bs l h)))
     (subst (λ t. Leads (send_bits bs k) (map (take_bit b) l) k t) (map-takes b bs l) (send_all bs k (map (take_bit b) l) (hears_on b bs l h)))
 
 pub send-append : {A : Type 0} (us vs : List Bool) (k : Job A) → send_bits (us ++ vs) k ≡ send_bits us (send_bits vs k)
 send-append [] vs k = refl
-send-append (u ∷ us) vs k = ap (λ q. step (slots u) (λ _. q)) (send-append us vs k)
+send-append (u ∷ us) vs k = ap (λ q. step (slot_pulse u) (λ _. q)) (send-append us vs k)
 
 -- the bytes of a word are its bits
 peel : (k x : ℕ) → bits_of (8 + k) x ≡ bits_of 8 (x % 256) ++ bits_of k (x / 256)
@@ -99,11 +99,11 @@ abbrev pub WideAll : List ChipState → Type 0
 WideAll [] = Unit {0}
 WideAll (c ∷ cs) = (c.number < 2 ^ 64) × WideAll cs
 
-pub opened_hear : (x : ℕ) (l : List ChipState) → busy l ≡ false → HearsAll (bits_of 8 0x55 ++ bits_of 64 x) (map reset_chip l)
+pub opened_hear : (x : ℕ) (l : List ChipState) → any_busy l ≡ false → HearsAll (bits_of 8 0x55 ++ bits_of 64 x) (map reset_chip l)
 opened_hear x [] e = tt
 opened_hear x (c ∷ cs) e = (select_hears x c (or_parts _ _ e).0, opened_hear x cs (or_parts _ _ e).1)
 
-pub opened_take : (x : ℕ) (l : List ChipState) → x < 2 ^ 64 → WideAll l → busy l ≡ false → map (takes (bits_of 8 0x55 ++ bits_of 64 x)) (map reset_chip l) ≡ map (opened_by x) l
+pub opened_take : (x : ℕ) (l : List ChipState) → x < 2 ^ 64 → WideAll l → any_busy l ≡ false → map (takes (bits_of 8 0x55 ++ bits_of 64 x)) (map reset_chip l) ≡ map (opened_by x) l
 opened_take x [] hx w e = refl
 opened_take x (c ∷ cs) hx w e =
     ap₂ (λ d ds. d ∷ ds) (select-takes x c w.0 hx (or_parts _ _ e).0) (opened_take x cs hx w.1 (or_parts _ _ e).1)
@@ -111,21 +111,21 @@ opened_take x (c ∷ cs) hx w e =
 abbrev pub after_opening : {B : Type 0} → ℕ → Job B → Job B → Bool → Job B
 after_opening x k nope present = elim present [ true ↦ send_bytes (0x55 ∷ []) (send_bytes (word_bytes x) k) | false ↦ nope ]
 
-pub sent-number : {B : Type 0} (x : ℕ) (k : Job B) → send_bytes (0x55 ∷ []) (send_bytes (word_bytes x) k) ≡ send_bits (bits_of 8 0x55 ++ bits_of 64 x) k
-sent-number x k = ap (λ bs. send_bits (bits_of 8 0x55) (send_bits bs k)) (word_bits x) ∙ sym (send-append (bits_of 8 0x55) (bits_of 64 x) k)
+pub after_sent-number : {B : Type 0} (x : ℕ) (k : Job B) → send_bytes (0x55 ∷ []) (send_bytes (word_bytes x) k) ≡ send_bits (bits_of 8 0x55 ++ bits_of 64 x) k
+after_sent-number x k = ap (λ bs. send_bits (bits_of 8 0x55) (send_bits bs k)) (word_bits x) ∙ sym (send-append (bits_of 8 0x55) (bits_of 64 x) k)
 
 -- after a reset that found a chip and 55h with a number, the chips with that number listen and the others are idle
-pub opened : {B : Type 0} (x : ℕ) (k nope : Job B) (l : List ChipState) → x < 2 ^ 64 → WideAll l → busy l ≡ false → presence l ≡ true
-    → Leads (step resets (after_opening x k nope)) l k (map (opened_by x) l)
+pub opened : {B : Type 0} (x : ℕ) (k nope : Job B) (l : List ChipState) → x < 2 ^ 64 → WideAll l → any_busy l ≡ false → presence l ≡ true
+    → Leads (step reset_pulse (after_opening x k nope)) l k (map (opened_by x) l)
 opened {B} x k nope l hx w e p =
     leads_then
-    (subst (λ t. Leads (step resets (after_opening x k nope)) l (after_opening x k nope t) (map reset_chip l)) p (leads_step resets (after_opening x k nope) l e))
-    (subst (λ q. Leads q (map reset_chip l) k (map (opened_by x) l)) (sym (sent-number x k))
+    (subst (λ t. Leads (step reset_pulse (after_opening x k nope)) l (after_opening x k nope t) (map reset_chip l)) p (leads_step reset_pulse (after_opening x k nope) l e))
+    (subst (λ q. Leads q (map reset_chip l) k (map (opened_by x) l)) (sym (after_sent-number x k))
     (subst (λ t. Leads (send_bits (bits_of 8 0x55 ++ bits_of 64 x) k) (map reset_chip l) k t) (opened_take x l hx w e)
     (send_all (bits_of 8 0x55 ++ bits_of 64 x) k (map reset_chip l) (opened_hear x l e))))
 
 -- a reset that finds none
-pub unopened : {B : Type 0} (x : ℕ) (k nope : Job B) (l : List ChipState) → busy l ≡ false → presence l ≡ false
-    → Leads (step resets (after_opening x k nope)) l nope (map reset_chip l)
+pub unopened : {B : Type 0} (x : ℕ) (k nope : Job B) (l : List ChipState) → any_busy l ≡ false → presence l ≡ false
+    → Leads (step reset_pulse (after_opening x k nope)) l nope (map reset_chip l)
 unopened x k nope l e p =
-    subst (λ t. Leads (step resets (after_opening x k nope)) l (after_opening x k nope t) (map reset_chip l)) p (leads_step resets (after_opening x k nope) l e)
+    subst (λ t. Leads (step reset_pulse (after_opening x k nope)) l (after_opening x k nope t) (map reset_chip l)) p (leads_step reset_pulse (after_opening x k nope) l e)

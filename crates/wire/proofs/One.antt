@@ -2,16 +2,16 @@
 use Rattle.std.proofs.Common.{◌≡◌, ℕ, zero, suc, ◌^◌, ◌<◌, Bool, true, false, ◌&&◌, ◌||◌, eqb, List, [], ◌∷◌, ◌++◌, map, drop, sym, refl, ap, ◌∙◌, subst, ap₂, eq-eqb, ne_eqb}
 use mathlib.Core.Bool.{or-true}
 use Rattle.std.proofs.lemmas.Bool.{true≢false, or_parts}
-use Rattle.bits.specs.Bits.{bits_of, bits_all, value}
-use Rattle.bits.specs.Widths.{value_bits}
-use Rattle.kind.specs.Kinds.{Rules, Bytes}
+use Rattle.base.specs.Bits.{bits_of, bits_all, value}
+use Rattle.base.specs.Widths.{value_bits}
+use Rattle.kinds.specs.Kinds.{Rules, Bytes}
 use Rattle.memory.specs.Scratchpads.{Regs, on, sending, await, command, Padded}
 use Rattle.memory.specs.Memories.{Memory, padded}
 use Rattle.chip.specs.Chips.{Live, off, Phase, selected, powered}
 use Rattle.chip.specs.Chips.{on as under, idle as resting}
-use Rattle.chip.specs.Steps.{ChipState, has_power, opened_as, opened_by}
-use Rattle.line.specs.Lines.{presence, busy}
-use Rattle.rig.specs.Rigs.{resets}
+use Rattle.chip.specs.ChipStates.{ChipState, has_power, opened_as, opened_by}
+use Rattle.line.specs.Lines.{presence, any_busy}
+use Rattle.rig.specs.Rigs.{reset_pulse}
 use Rattle.wire.specs.Jobs.{Job, step, read_bytes}
 use Rattle.wire.specs.Laws.{NoneHas, powered_in, first_bytes}
 use Rattle.wire.proofs.Leading.{Leads, leads_then, leads_none, WideAll, after_opening, opened}
@@ -97,11 +97,11 @@ wide_mid (u ∷ us) vs c a h b = (a.0, wide_mid us vs c a.1 h b)
 
 module _ (x : ℕ) (hx : x < 2 ^ 64) (us vs : List ChipState) (wu : WideAll us) (wv : WideAll vs) where
   -- the opening of an exchange reaches the powered chip with the number
-  pub open_one : {B : Type 0} (k nope : Job B) (rc : Bool) (p : Phase) (q : Padded) → busy (us ++ (record { number = x; live = under rc p; memory = padded q } ∷ vs)) ≡ false
-      → Leads (step resets (after_opening x k nope)) (us ++ (record { number = x; live = under rc p; memory = padded q } ∷ vs))
+  pub open_one : {B : Type 0} (k nope : Job B) (rc : Bool) (p : Phase) (q : Padded) → any_busy (us ++ (record { number = x; live = under rc p; memory = padded q } ∷ vs)) ≡ false
+      → Leads (step reset_pulse (after_opening x k nope)) (us ++ (record { number = x; live = under rc p; memory = padded q } ∷ vs))
       k (map (opened_by x) us ++ (record { number = x; live = under true selected; memory = padded (record { rules = q.rules; bytes = q.bytes; work = on q.work.regs (await command) }) } ∷ map (opened_by x) vs))
   open_one {B} k nope rc p q e =
-      subst (λ l. Leads (step resets (after_opening x k nope)) (us ++ (c ∷ vs)) k l)
+      subst (λ l. Leads (step reset_pulse (after_opening x k nope)) (us ++ (c ∷ vs)) k l)
       (map_mid (opened_by x) us vs c ∙ ap (λ t. map (opened_by x) us ++ (opened_as (under rc p) t c ∷ map (opened_by x) vs)) (eq-eqb x x refl))
       (opened x k nope (us ++ (c ∷ vs)) hx (wide_mid us vs c wu hx wv) e (presence_mid us vs c refl))
     where

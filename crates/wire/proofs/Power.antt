@@ -2,35 +2,35 @@
 use Rattle.std.proofs.Common.{◌≡◌, ℕ, zero, suc, Bool, true, false, ◌&&◌, ◌||◌, eqb, List, [], ◌∷◌, ◌++◌, map, sym, refl, ap, ◌∙◌, subst, ap₂}
 use mathlib.Core.Bool.{and-false}
 use Rattle.std.proofs.lemmas.Bool.{true≢false}
-use Rattle.bits.specs.Bits.{bits_all, value}
-use Rattle.number.specs.Numbers.{word_bytes}
+use Rattle.base.specs.Bits.{bits_all, value}
+use Rattle.base.specs.RegistrationNumbers.{word_bytes}
 use Rattle.memory.specs.Memories.{protocols}
-use Rattle.chip.specs.Chips.{Live, off, on, powered, Phase, idle, command, sending, matching, seeking, itself, opposite, choice, selected, take_in, take_live, reset_live, obey, command_of, Command, read_number, match_number, seek_number, skip_number, resume, unknown}
-use Rattle.chip.specs.Steps.{ChipState, has_power, is_busy, take_bit, reset_chip, dwell_chip, cut_chip}
-use Rattle.bits.proofs.Choice.{pick}
+use Rattle.chip.specs.Chips.{Live, off, on, powered, Phase, idle, command, sending, matching, searching, rom_bit, complement, direction, selected, take_in, take_live, reset_live, run_command, command_of, Command, read_rom, match_rom, search_rom, skip_rom, resume, unknown}
+use Rattle.chip.specs.ChipStates.{ChipState, has_power, is_busy, take_bit, reset_chip, dwell_chip, cut_chip}
+use Rattle.base.proofs.Choice.{pick}
 use Rattle.chip.proofs.Keeps.{number-taken}
-use Rattle.bits.specs.Bits.{same, full, front_bit, rest_bits, spent}
-use Rattle.line.specs.Lines.{pull, busy}
-use Rattle.rig.specs.Rigs.{RigState, FuseState, none, after, Pulse, resets, slots, dwells, act, answer, deaf, pulse, refused, counted}
-use Rattle.rig.proofs.Unpowered.{AllOff, off-act, off-answer, off-refused, cut_off}
+use Rattle.base.specs.Bits.{same, full, front_bit, rest_bits, none_left}
+use Rattle.line.specs.Lines.{pull, any_busy}
+use Rattle.rig.specs.Rigs.{RigState, FuseState, none, after, Pulse, reset_pulse, slot_pulse, dwell_pulse, line_after, answer, answer_if_cut, pulse, refused, counted}
+use Rattle.rig.proofs.Unpowered.{AllOff, off-line_after, off-answer, off-refused, cut_off}
 use Rattle.wire.specs.Jobs.{Job, ret, step, Got, done, line_busy, Ran, run, send_bits, read_bits, read_bytes, send_bytes}
 use Rattle.wire.specs.Exchanges.{Exchange, answer as answers, refuse, opening, closing, dwelling, send, read, pulses}
-use Rattle.wire.specs.declared.fault.Why.{Why}
-use Rattle.wire.specs.declared.fault.Why.TheVariants.{NoPresence}
+use Rattle.wire.specs.declared.exchange_fault.ExchangeError.{ExchangeError}
+use Rattle.wire.specs.declared.exchange_fault.ExchangeError.TheVariants.{NoPresence}
 use Rattle.wire.specs.Laws.{states, powered_in, KeptPower}
 use Rattle.wire.proofs.Leading.{free}
 
 -- what a job answers when nobody is there
 unfoldable pub dead_run : {A : Type 0} → Job A → A
 dead_run (ret a) = a
-dead_run (step p k) = dead_run (k (deaf p))
+dead_run (step p k) = dead_run (k (answer_if_cut p))
 
 pub run_dead : {A : Type 0} (n : ℕ) (p : Job A) (l : List ChipState) → AllOff l → (run n p (free l)).got ≡ done (dead_run p)
 unfolding dead_run
 run_dead n (ret a) l o = refl
 run_dead {A} n (step p k) l o =
-    ap (λ t. (elim t as (λ _. Ran A) [ true ↦ record { rig = free l; steps = n; got = line_busy } | false ↦ run (counted n) (k (answer p l)) (free (act p l)) ]).got) (off-refused p l o)
-    ∙ run_dead (counted n) (k (answer p l)) (act p l) (subst AllOff (sym (off-act p l o)) o)
+    ap (λ t. (elim t as (λ _. Ran A) [ true ↦ record { rig = free l; steps = n; got = line_busy } | false ↦ run (counted n) (k (answer p l)) (free (line_after p l)) ]).got) (off-refused p l o)
+    ∙ run_dead (counted n) (k (answer p l)) (line_after p l) (subst AllOff (sym (off-line_after p l o)) o)
     ∙ ap (λ b. done (dead_run (k b))) (off-answer p l o)
 
 -- a run with a fuse, and the run without one
@@ -44,16 +44,16 @@ on_step n p k r t = elim t [ true ↦ record { rig = r; steps = n; got = line_bu
 -- a job that begins with a reset
 abbrev pub Resetting : {A : Type 0} → Job A → Type 0
 Resetting (ret a) = ⊥
-Resetting (step resets k) = Unit {0}
-Resetting (step (slots b) k) = ⊥
-Resetting (step dwells k) = ⊥
+Resetting (step reset_pulse k) = Unit {0}
+Resetting (step (slot_pulse b) k) = ⊥
+Resetting (step dwell_pulse k) = ⊥
 
 -- it ends at once on a busy line, with all unchanged
-pub first_refused : {A : Type 0} (n : ℕ) (j : Job A) (r : RigState) → Resetting j → busy r.line ≡ true → run n j r ≡ record { rig = r; steps = n; got = line_busy }
+pub first_refused : {A : Type 0} (n : ℕ) (j : Job A) (r : RigState) → Resetting j → any_busy r.line ≡ true → run n j r ≡ record { rig = r; steps = n; got = line_busy }
 first_refused n (ret a) r h q = absurd h
-first_refused n (step resets k) r h q = ap (on_step n resets k r) q
-first_refused n (step (slots b) k) r h q = absurd h
-first_refused n (step dwells k) r h q = absurd h
+first_refused n (step reset_pulse k) r h q = ap (on_step n reset_pulse k r) q
+first_refused n (step (slot_pulse b) k) r h q = absurd h
+first_refused n (step dwell_pulse k) r h q = absurd h
 
 abbrev state_step : {A : Type 0} (p : Pulse) (k : Bool → Job A) (r : RigState) → Bool → List RigState
 state_step p k r t = elim t [ true ↦ [] | false ↦ (pulse p r).0 ∷ states (k (pulse p r).1) (pulse p r).0 ]
@@ -73,7 +73,7 @@ kept_free {A} x n (step p k) l f h = go f (refused p l) h (λ b l' f' h'. kept_f
     go g true h' ih = record { got = refl; line = refl }
     go none false h' ih = record { got = refl; line = refl }
     go (after zero m) false h' ih = absurd (true≢false (sym h'.0 ∙ off-powered x (map (cut_chip m) l) (cut_off m l)))
-    go (after (suc j) m) false h' ih = ih (answer p l) (act p l) (after j m) h'.1
+    go (after (suc j) m) false h' ih = ih (answer p l) (line_after p l) (after j m) h'.1
 
 -- no step but a cut takes power
 reset-powered : (c : ChipState) → has_power (reset_chip c) ≡ has_power c
@@ -86,22 +86,22 @@ reset-powered c = pick (is_busy c) (λ l. powered l ≡ has_power c) refl (go c.
 abbrev Up : ChipState → Type 0
 Up d = has_power d ≡ true
 
-obey-powered : (o : Command) (rc : Bool) (c : ChipState) → Up (obey protocols o rc c)
-obey-powered read_number rc c = refl
-obey-powered match_number rc c = refl
-obey-powered seek_number rc c = refl
-obey-powered skip_number rc c = refl
-obey-powered resume rc c = pick rc Up refl refl
-obey-powered unknown rc c = refl
+run_command-powered : (o : Command) (rc : Bool) (c : ChipState) → Up (run_command protocols o rc c)
+run_command-powered read_rom rc c = refl
+run_command-powered match_rom rc c = refl
+run_command-powered search_rom rc c = refl
+run_command-powered skip_rom rc c = refl
+run_command-powered resume rc c = pick rc Up refl refl
+run_command-powered unknown rc c = refl
 
 in_powered : (p : Phase) (rc b : Bool) (c : ChipState) → Up (take_in protocols p rc b c)
 in_powered idle rc b c = refl
-in_powered (command bs) rc b c = pick (full (bs ++ (b ∷ []))) Up (obey-powered (command_of (value (bs ++ (b ∷ [])))) rc c) refl
-in_powered (sending bs) rc b c = pick (spent (rest_bits bs)) Up refl refl
-in_powered (matching bs) rc b c = pick (same (front_bit bs) b) Up (pick (spent (rest_bits bs)) Up refl refl) refl
-in_powered (seeking itself bs) rc b c = refl
-in_powered (seeking opposite bs) rc b c = refl
-in_powered (seeking choice bs) rc b c = pick (same (front_bit bs) b) Up (pick (spent (rest_bits bs)) Up refl refl) refl
+in_powered (command bs) rc b c = pick (full (bs ++ (b ∷ []))) Up (run_command-powered (command_of (value (bs ++ (b ∷ [])))) rc c) refl
+in_powered (sending bs) rc b c = pick (none_left (rest_bits bs)) Up refl refl
+in_powered (matching bs) rc b c = pick (same (front_bit bs) b) Up (pick (none_left (rest_bits bs)) Up refl refl) refl
+in_powered (searching rom_bit bs) rc b c = refl
+in_powered (searching complement bs) rc b c = refl
+in_powered (searching direction bs) rc b c = pick (same (front_bit bs) b) Up (pick (none_left (rest_bits bs)) Up refl refl) refl
 in_powered selected rc b c = refl
 
 taken-powered : (b : Bool) (c : ChipState) → has_power (take_bit b c) ≡ has_power c
@@ -116,10 +116,10 @@ power_map x f n h [] = refl
 power_map x f n h (c ∷ cs) =
     ap₂ (λ a b. eqb a x && b || powered_in x (map f cs)) (n c) (h c) ∙ ap (λ t. eqb c.number x && has_power c || t) (power_map x f n h cs)
 
-pub act-powered : (x : ℕ) (p : Pulse) (l : List ChipState) → powered_in x (act p l) ≡ powered_in x l
-act-powered x resets l = power_map x reset_chip (λ c. refl) reset-powered l
-act-powered x (slots b) l = power_map x (take_bit (b && pull l)) (number-taken (b && pull l)) (taken-powered (b && pull l)) l
-act-powered x dwells l = power_map x dwell_chip (λ c. refl) (λ c. refl) l
+pub line_after-powered : (x : ℕ) (p : Pulse) (l : List ChipState) → powered_in x (line_after p l) ≡ powered_in x l
+line_after-powered x reset_pulse l = power_map x reset_chip (λ c. refl) reset-powered l
+line_after-powered x (slot_pulse b) l = power_map x (take_bit (b && pull l)) (number-taken (b && pull l)) (taken-powered (b && pull l)) l
+line_after-powered x dwell_pulse l = power_map x dwell_chip (λ c. refl) (λ c. refl) l
 
 module _ {A : Type 0} (Good : A → Type 0) where
   abbrev pub GotGood : Got A → Type 0
@@ -133,19 +133,19 @@ module _ {A : Type 0} (Good : A → Type 0) where
   -- none after a cut at any step
   abbrev pub Wary : Job A → Type 0
   Wary (ret a) = Unit {0}
-  Wary (step p k) = Lost (k (deaf p)) × ((b : Bool) → Wary (k b))
+  Wary (step p k) = Lost (k (answer_if_cut p)) × ((b : Bool) → Wary (k b))
 
   pub lost_ret : (a : A) → (Good a → ⊥) → Lost (ret a)
   unfolding dead_run
   lost_ret a h = h
 
-  pub lost_step : (p : Pulse) (k : Bool → Job A) → Lost (k (deaf p)) → Lost (step p k)
+  pub lost_step : (p : Pulse) (k : Bool → Job A) → Lost (k (answer_if_cut p)) → Lost (step p k)
   unfolding dead_run
   lost_step p k h = h
 
   lost_send : (bs : List Bool) (k : Job A) → Lost k → Lost (send_bits bs k)
   lost_send [] k h = h
-  lost_send (b ∷ bs) k h = lost_step (slots b) (λ _. send_bits bs k) (lost_send bs k h)
+  lost_send (b ∷ bs) k h = lost_step (slot_pulse b) (λ _. send_bits bs k) (lost_send bs k h)
 
   wary_send : (bs : List Bool) (k : Job A) → Lost k → Wary k → Wary (send_bits bs k)
   wary_send [] k h w = w
@@ -153,7 +153,7 @@ module _ {A : Type 0} (Good : A → Type 0) where
 
   lost_read : (n : ℕ) (k : List Bool → Job A) → ((bs : List Bool) → Lost (k bs)) → Lost (read_bits n k)
   lost_read zero k h = h []
-  lost_read (suc n) k h = lost_step (slots true) (λ b. read_bits n (λ bs. k (b ∷ bs))) (lost_read n (λ bs. k (true ∷ bs)) (λ bs. h (true ∷ bs)))
+  lost_read (suc n) k h = lost_step (slot_pulse true) (λ b. read_bits n (λ bs. k (b ∷ bs))) (lost_read n (λ bs. k (true ∷ bs)) (λ bs. h (true ∷ bs)))
 
   wary_read : (n : ℕ) (k : List Bool → Job A) → ((bs : List Bool) → Lost (k bs)) → ((bs : List Bool) → Wary (k bs)) → Wary (read_bits n k)
   wary_read zero k h w = w []
@@ -168,17 +168,17 @@ module _ {A : Type 0} (Good : A → Type 0) where
   wary_bytes (suc n) k h w = wary_read 8 _ (λ bs. lost_bytes n (λ xs. k (value bs ∷ xs)) (λ xs. h (value bs ∷ xs))) (λ bs. wary_bytes n (λ xs. k (value bs ∷ xs)) (λ xs. h (value bs ∷ xs)) (λ xs. w (value bs ∷ xs)))
 
   -- an exchange whose continuations are so
-  module _ {C : Type 0} (good : C → Job A) (bad : Why → ℕ → Job A) (lg : (c : C) → Lost (good c)) (lb : (w : Why) (e : ℕ) → Lost (bad w e)) where
+  module _ {C : Type 0} (good : C → Job A) (bad : ExchangeError → ℕ → Job A) (lg : (c : C) → Lost (good c)) (lb : (w : ExchangeError) (e : ℕ) → Lost (bad w e)) where
     pub lost_exchange : (j : Exchange C) → Lost (pulses j good bad)
     lost_exchange (answers c) = lg c
     lost_exchange (refuse w e) = lb w e
-    lost_exchange (opening x e k) = lost_step resets (λ present. elim present [ true ↦ send_bytes (0x55 ∷ []) (send_bytes (word_bytes x) (pulses k good bad)) | false ↦ bad NoPresence e ]) (lb NoPresence e)
-    lost_exchange (closing k) = lost_step resets (λ b. pulses (k b) good bad) (lost_exchange (k false))
-    lost_exchange (dwelling k) = lost_step dwells (λ _. pulses k good bad) (lost_exchange k)
+    lost_exchange (opening x e k) = lost_step reset_pulse (λ present. elim present [ true ↦ send_bytes (0x55 ∷ []) (send_bytes (word_bytes x) (pulses k good bad)) | false ↦ bad NoPresence e ]) (lb NoPresence e)
+    lost_exchange (closing k) = lost_step reset_pulse (λ b. pulses (k b) good bad) (lost_exchange (k false))
+    lost_exchange (dwelling k) = lost_step dwell_pulse (λ _. pulses k good bad) (lost_exchange k)
     lost_exchange (send xs k) = lost_send (bits_all xs) (pulses k good bad) (lost_exchange k)
     lost_exchange (read n k) = lost_bytes n (λ xs. pulses (k xs) good bad) (λ xs. lost_exchange (k xs))
 
-    module _ (wg : (c : C) → Wary (good c)) (wb : (w : Why) (e : ℕ) → Wary (bad w e)) where
+    module _ (wg : (c : C) → Wary (good c)) (wb : (w : ExchangeError) (e : ℕ) → Wary (bad w e)) where
       pub wary_exchange : (j : Exchange C) → Wary (pulses j good bad)
       wary_exchange (answers c) = wg c
       wary_exchange (refuse w e) = wb w e
@@ -204,8 +204,8 @@ module _ {A : Type 0} (Good : A → Type 0) where
           → AsFree (on_step n p k (record { line = l; fuse = g }) t) (on_step n p k (free l) t)
       go g true h' ih = absurd h'
       go none false h' ih = record { got = refl; line = refl }
-      go (after zero m) false h' ih = absurd (w.0 (subst GotGood (run_dead (counted n) (k (deaf p)) (map (cut_chip m) l) (cut_off m l)) h'))
-      go (after (suc j) m) false h' ih = ih (answer p l) (act p l) (after j m) h'
+      go (after zero m) false h' ih = absurd (w.0 (subst GotGood (run_dead (counted n) (k (answer_if_cut p)) (map (cut_chip m) l) (cut_off m l)) h'))
+      go (after (suc j) m) false h' ih = ih (answer p l) (line_after p l) (after j m) h'
 
   -- and its tag kept power, if it had power at first
   pub good_kept : (x n : ℕ) (p : Job A) (l : List ChipState) (f : FuseState) → Wary p → powered_in x l ≡ true → GotGood (run n p (record { line = l; fuse = f })).got → KeptPower x (states p (record { line = l; fuse = f }))
@@ -216,6 +216,6 @@ module _ {A : Type 0} (Good : A → Type 0) where
           → ((b : Bool) (l' : List ChipState) (f' : FuseState) → powered_in x l' ≡ true → GotGood (run (counted n) (k b) (record { line = l'; fuse = f' })).got → KeptPower x (states (k b) (record { line = l'; fuse = f' })))
           → KeptPower x (state_step p k (record { line = l; fuse = g }) t)
       go g true h' ih = absurd h'
-      go none false h' ih = (act-powered x p l ∙ u, ih (answer p l) (act p l) none (act-powered x p l ∙ u) h')
-      go (after zero m) false h' ih = absurd (w.0 (subst GotGood (run_dead (counted n) (k (deaf p)) (map (cut_chip m) l) (cut_off m l)) h'))
-      go (after (suc j) m) false h' ih = (act-powered x p l ∙ u, ih (answer p l) (act p l) (after j m) (act-powered x p l ∙ u) h')
+      go none false h' ih = (line_after-powered x p l ∙ u, ih (answer p l) (line_after p l) none (line_after-powered x p l ∙ u) h')
+      go (after zero m) false h' ih = absurd (w.0 (subst GotGood (run_dead (counted n) (k (answer_if_cut p)) (map (cut_chip m) l) (cut_off m l)) h'))
+      go (after (suc j) m) false h' ih = (line_after-powered x p l ∙ u, ih (answer p l) (line_after p l) (after j m) (line_after-powered x p l ∙ u) h')

@@ -2,9 +2,9 @@
 use Rattle.std.proofs.Common.{◌≡◌, ℕ, Bool, true, false, ◌&&◌, ◌||◌, eqb, ◌≢◌, ◌⊎◌, List, [], ◌∷◌, ◌++◌, map, sym, refl, ap, ◌∙◌, subst, ap₂, inl, inr, ne_eqb}
 use Rattle.std.proofs.lemmas.Bool.{true≢false}
 use Rattle.chip.specs.Chips.{Live, off, on, powered}
-use Rattle.chip.specs.Steps.{ChipState, has_power, cut_chip, opened_as}
+use Rattle.chip.specs.ChipStates.{ChipState, has_power, cut_chip, opened_as}
 use Rattle.chip.proofs.Sound.{Sound, SoundAll, met_sounds}
-use Rattle.rig.proofs.Unpowered.{off-act, off-answer, off-refused, cut_off}
+use Rattle.rig.proofs.Unpowered.{off-line_after, off-answer, off-refused, cut_off}
 use Rattle.wire.specs.Jobs.{ret, Ran}
 use Rattle.wire.specs.Selection.{Quiet, QuietEach, Selects, OthersQuiet, QuietStays, OneHeard, CutSilent, LineLaws}
 use Rattle.wire.specs.Laws.{NoneHas, powered_in}
@@ -67,7 +67,7 @@ one_heard us vs c a b = pull_put us vs c (to_all us a) (to_all vs b)
 cut-silent : CutSilent
 cut-silent mask l p =
     let o = cut_off mask l in
-    (off-refused p (map (cut_chip mask) l) o, off-answer p (map (cut_chip mask) l) o, off-act p (map (cut_chip mask) l) o)
+    (off-refused p (map (cut_chip mask) l) o, off-answer p (map (cut_chip mask) l) o, off-line_after p (map (cut_chip mask) l) o)
 
 pub line_laws : LineLaws
 line_laws = record { selects = selects; others = others_quiet; stays = quiet_stays; heard = one_heard; silent = cut-silent }

@@ -3,16 +3,16 @@ use Rattle.std.proofs.Common.{◌≡◌, ℕ, zero, suc, ◌≤◌, Bool, true, 
 use mathlib.Core.Path.{fun_ext}
 use Rattle.std.specs.Result.{IsErrAnd}
 use Rattle.std.proofs.lemmas.Result.{err_from_is_err_and}
-use Rattle.bits.specs.Bits.{bit, value}
-use Rattle.bits.specs.Words.{shifted}
-use Rattle.rig.specs.Rigs.{RigState, Pulse, slots, pulse, refused, counted}
+use Rattle.base.specs.Bits.{bit, value}
+use Rattle.base.specs.Shifting.{shifted}
+use Rattle.rig.specs.Rigs.{RigState, Pulse, slot_pulse, pulse, refused, counted}
 use Rattle.wire.specs.Jobs.{Job, ret, step, Ran, Got, done, line_busy, run}
 use Rattle.wire.specs.Jobs.{read_bytes}
 use Rattle.wire.proofs.Bind.{bind, run_bind, onward as after}
-use Rattle.rig.specs.Meaning.{Counting, beat}
-use Rattle.rig.specs.declared.fault.RigFault.{RigFault}
-use Rattle.rig.specs.declared.fault.RigFault.TheVariants.{LineBusy}
-use Rattle.wire.specs.Wires.{outcome, does, onward, keep, sends, reads_byte}
+use Rattle.rig.specs.RigModel.{Counting, counted_pulse}
+use Rattle.rig.specs.declared.rig_fault.RigFault.{RigFault}
+use Rattle.rig.specs.declared.rig_fault.RigFault.TheVariants.{LineBusy}
+use Rattle.wire.specs.Outcomes.{outcome, does, onward, keep, sends, reads_byte}
 
 -- what the exit of a `?` returns
 pub exits : {T E : Type 0} {x : E} {r : Result T E} → IsErrAnd r (λ y. y ≡ x) → r ≡ Err x
@@ -22,7 +22,7 @@ pub does-ret : {A : Type 0} (a : A) (d : Counting) → does (ret a) d ≡ (d, Ok
 unfolding does
 does-ret a d = refl
 
-pub does-step : {A : Type 0} (p : Pulse) (k : Bool → Job A) (d : Counting) → does (step p k) d ≡ onward keep (beat p d) (λ b e. does (k b) e)
+pub does-step : {A : Type 0} (p : Pulse) (k : Bool → Job A) (d : Counting) → does (step p k) d ≡ onward keep (counted_pulse p d) (λ b e. does (k b) e)
 unfolding does
 does-step {A} p k d =
     elim (refused p d.rig.line) as (λ t.
@@ -39,10 +39,10 @@ does_bind {A} {B} p f d = ap outcome (run_bind d.steps p f d.rig) ∙ go (run d.
     go r n line_busy = refl
 
 -- a pulse that was answered, and one that was refused
-pub step_ok : {A : Type 0} (p : Pulse) (k : Bool → Job A) (d : Counting) {d' : Counting} {b : Bool} → (d', Ok b) ≡ beat p d → does (step p k) d ≡ does (k b) d'
+pub step_ok : {A : Type 0} (p : Pulse) (k : Bool → Job A) (d : Counting) {d' : Counting} {b : Bool} → (d', Ok b) ≡ counted_pulse p d → does (step p k) d ≡ does (k b) d'
 step_ok p k d e = does-step p k d ∙ ap (λ s. onward keep s (λ b e. does (k b) e)) (sym e)
 
-pub step_err : {A : Type 0} (p : Pulse) (k : Bool → Job A) (d : Counting) {d' : Counting} {x : RigFault} → (d', Err x) ≡ beat p d → does (step p k) d ≡ (d', Err x)
+pub step_err : {A : Type 0} (p : Pulse) (k : Bool → Job A) (d : Counting) {d' : Counting} {x : RigFault} → (d', Err x) ≡ counted_pulse p d → does (step p k) d ≡ (d', Err x)
 step_err p k d e = does-step p k d ∙ ap (λ s. onward keep s (λ b e. does (k b) e)) (sym e)
 
 -- a part that was answered, and one that was refused
@@ -68,7 +68,7 @@ shift_all got (b ∷ bs) = shift_all (shifted 0x80 got b) bs
 -- what is left of reading a byte
 abbrev pub read_rest : ℕ → ℕ → Job ℕ
 read_rest got zero = ret got
-read_rest got (suc n) = step (slots true) (λ b. read_rest (shifted 0x80 got b) n)
+read_rest got (suc n) = step (slot_pulse true) (λ b. read_rest (shifted 0x80 got b) n)
 
 pub under : {A : Type 0} (p : Pulse) (k k' : Bool → Job A) → ((b : Bool) → k b ≡ k' b) → step p k ≡ step p k'
 under p k k' h = ap (step p) (fun_ext h)
@@ -83,8 +83,8 @@ shifted_all a b c d e f g h = omega (arith, small a, small b, small c, small d, 
 pub rest_read : read_rest 0 8 ≡ reads_byte
 unfolding reads_byte
 rest_read =
-    under (slots true) _ _ (λ a. under (slots true) _ _ (λ b. under (slots true) _ _ (λ c. under (slots true) _ _ (λ d.
-    under (slots true) _ _ (λ e. under (slots true) _ _ (λ f. under (slots true) _ _ (λ g. under (slots true) _ _ (λ h. ap ret (shifted_all a b c d e f g h)))))))))
+    under (slot_pulse true) _ _ (λ a. under (slot_pulse true) _ _ (λ b. under (slot_pulse true) _ _ (λ c. under (slot_pulse true) _ _ (λ d.
+    under (slot_pulse true) _ _ (λ e. under (slot_pulse true) _ _ (λ f. under (slot_pulse true) _ _ (λ g. under (slot_pulse true) _ _ (λ h. ap ret (shifted_all a b c d e f g h)))))))))
 
 -- what is left of reading bytes after those that were read
 abbrev pub reads_rest : List ℕ → ℕ → Job (List ℕ)
@@ -93,6 +93,6 @@ reads_rest got n = read_bytes n (λ xs. ret (got ++ xs))
 pub reads_more : (got : List ℕ) (n : ℕ) → reads_rest got (suc n) ≡ bind reads_byte (λ x. reads_rest (got ++ (x ∷ [])) n)
 unfolding reads_byte
 reads_more got n =
-    under (slots true) _ _ (λ a. under (slots true) _ _ (λ b. under (slots true) _ _ (λ c. under (slots true) _ _ (λ d.
-    under (slots true) _ _ (λ e. under (slots true) _ _ (λ f. under (slots true) _ _ (λ g. under (slots true) _ _ (λ h.
+    under (slot_pulse true) _ _ (λ a. under (slot_pulse true) _ _ (λ b. under (slot_pulse true) _ _ (λ c. under (slot_pulse true) _ _ (λ d.
+    under (slot_pulse true) _ _ (λ e. under (slot_pulse true) _ _ (λ f. under (slot_pulse true) _ _ (λ g. under (slot_pulse true) _ _ (λ h.
     ap (read_bytes n) (fun_ext (λ xs. ap ret (sym (append_assoc got (value (a ∷ b ∷ c ∷ d ∷ e ∷ f ∷ g ∷ h ∷ []) ∷ []) xs))))))))))))

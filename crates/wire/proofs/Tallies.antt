@@ -1,14 +1,14 @@
 -- The steps that a fault carries are those that its rig has counted.
 use Rattle.std.proofs.Common.{ℕ, Bool, true, false, cond, [], ◌∷◌, Ok, Err, Result, sym, refl, subst}
-use Rattle.number.specs.Numbers.{word_bytes}
-use Rattle.rig.specs.Rigs.{resets, dwells, pulse, counted}
-use Rattle.rig.specs.Meaning.{Counting, beat}
-use Rattle.rig.specs.declared.fault.RigFault.{RigFault}
-use Rattle.wire.specs.Wires.{does, sends, reads, onwards, keep}
-use Rattle.wire.specs.Exchanges.{Tallies, present, begins, Exchange, answer, refuse, opening, closing, dwelling, send, read, tells, Told}
-use Rattle.wire.specs.declared.fault.Why.TheVariants.{NoPresence}
-use Rattle.wire.specs.declared.fault.ExchangeFault.{ExchangeFault}
-use Rattle.wire.specs.declared.fault.ExchangeFault.TheVariants.{Rig, Failed}
+use Rattle.base.specs.RegistrationNumbers.{word_bytes}
+use Rattle.rig.specs.Rigs.{reset_pulse, dwell_pulse, pulse, counted}
+use Rattle.rig.specs.RigModel.{Counting, counted_pulse}
+use Rattle.rig.specs.declared.rig_fault.RigFault.{RigFault}
+use Rattle.wire.specs.Outcomes.{does, sends, reads, onwards, keep}
+use Rattle.wire.specs.Exchanges.{Tallies, present, resets_and_matches, Exchange, answer, refuse, opening, closing, dwelling, send, read, tells, Told}
+use Rattle.wire.specs.declared.exchange_fault.ExchangeError.TheVariants.{NoPresence}
+use Rattle.wire.specs.declared.exchange_fault.ExchangeFault.{ExchangeFault}
+use Rattle.wire.specs.declared.exchange_fault.ExchangeFault.TheVariants.{Rig, Failed}
 
 abbrev Tallied : {A : Type 0} → Counting → Result A ExchangeFault → Type 0
 Tallied d (Ok a) = Unit {0}
@@ -26,13 +26,13 @@ kept s (Ok a) rest t h = h a s
 kept s (Err e) rest t h = t
 
 present_tallied : (e : ℕ) (d : Counting) → Tallied (present e d).0 (present e d).1
-present_tallied e d = rigs (beat resets d).0 (beat resets d).1 (λ found d. (d, cond found (Ok tt) (Err (Failed NoPresence e d.steps)))) go
+present_tallied e d = rigs (counted_pulse reset_pulse d).0 (counted_pulse reset_pulse d).1 (λ found d. (d, cond found (Ok tt) (Err (Failed NoPresence e d.steps)))) go
   where
     go : (found : Bool) (d : Counting) → Tallied {A = Unit {0}} d (cond found (Ok tt) (Err (Failed NoPresence e d.steps)))
     go true d = tt
     go false d = refl
 
-begins_tallied : (x e : ℕ) (d : Counting) → Tallied (begins x e d).0 (begins x e d).1
+begins_tallied : (x e : ℕ) (d : Counting) → Tallied (resets_and_matches x e d).0 (resets_and_matches x e d).1
 begins_tallied x e d =
     kept (present e d).0 (present e d).1 _ (present_tallied e d)
     (λ _ d. rigs (does (sends (0x55 ∷ [])) d).0 (does (sends (0x55 ∷ [])) d).1 _
@@ -41,9 +41,9 @@ begins_tallied x e d =
 tells_tallied : {A : Type 0} (j : Exchange A) (d : Counting) → Tallied (tells j d).0 (tells j d).1
 tells_tallied (answer a) d = tt
 tells_tallied (refuse w e) d = refl
-tells_tallied (opening x e k) d = kept (begins x e d).0 (begins x e d).1 (λ _ d. tells k d) (begins_tallied x e d) (λ _ d. tells_tallied k d)
-tells_tallied (closing k) d = rigs (beat resets d).0 (beat resets d).1 (λ b d. tells (k b) d) (λ b d. tells_tallied (k b) d)
-tells_tallied (dwelling k) d = tells_tallied k (record { rig = (pulse dwells d.rig).0; steps = counted d.steps })
+tells_tallied (opening x e k) d = kept (resets_and_matches x e d).0 (resets_and_matches x e d).1 (λ _ d. tells k d) (begins_tallied x e d) (λ _ d. tells_tallied k d)
+tells_tallied (closing k) d = rigs (counted_pulse reset_pulse d).0 (counted_pulse reset_pulse d).1 (λ b d. tells (k b) d) (λ b d. tells_tallied (k b) d)
+tells_tallied (dwelling k) d = tells_tallied k (record { rig = (pulse dwell_pulse d.rig).0; steps = counted d.steps })
 tells_tallied (send xs k) d = rigs (does (sends xs) d).0 (does (sends xs) d).1 (λ _ d. tells k d) (λ _ d. tells_tallied k d)
 tells_tallied (read n k) d = rigs (does (reads n) d).0 (does (reads n) d).1 (λ xs d. tells (k xs) d) (λ xs d. tells_tallied (k xs) d)
 

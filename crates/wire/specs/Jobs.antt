@@ -1,7 +1,7 @@
 -- Jobs: pulses, each going on from the answer of the one before, run by one interpreter.
 use Rattle.std.specs.Prelude.{ℕ, zero, suc, Bool, true, false, List, [], ◌∷◌}
-use Rattle.bits.specs.Bits.{value, bits_all}
-use Rattle.rig.specs.Rigs.{RigState, Pulse, slots, pulse, refused, counted}
+use Rattle.base.specs.Bits.{value, bits_all}
+use Rattle.rig.specs.Rigs.{RigState, Pulse, slot_pulse, pulse, refused, counted}
 
 pub data Job (A : Type 0) : Type 0 where
   ret : A → Job A
@@ -29,12 +29,12 @@ run n (step p k) r =
 module _ {A : Type 0} where
   abbrev pub send_bits : List Bool → Job A → Job A
   send_bits [] k = k
-  send_bits (b ∷ bs) k = step (slots b) (λ _. send_bits bs k)
+  send_bits (b ∷ bs) k = step (slot_pulse b) (λ _. send_bits bs k)
 
   -- a bit is read by a slot with 1
   abbrev pub read_bits : ℕ → (List Bool → Job A) → Job A
   read_bits zero k = k []
-  read_bits (suc n) k = step (slots true) (λ b. read_bits n (λ bs. k (b ∷ bs)))
+  read_bits (suc n) k = step (slot_pulse true) (λ b. read_bits n (λ bs. k (b ∷ bs)))
 
   abbrev pub send_bytes : List ℕ → Job A → Job A
   send_bytes xs k = send_bits (bits_all xs) k

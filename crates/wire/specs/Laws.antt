@@ -1,7 +1,7 @@
 -- Words for laws of jobs: the moments of a job, the tag with a number, its power and its bytes.
 use Rattle.std.specs.Prelude.{◌≡◌, ℕ, zero, suc, Bool, true, false, ◌&&◌, ◌||◌, ◌≢◌, List, [], ◌∷◌, ◌++◌, drop, ◌==◌}
-use Rattle.kind.specs.Kinds.{row_length}
-use Rattle.chip.specs.Steps.{ChipState, has_power}
+use Rattle.kinds.specs.Kinds.{row_length}
+use Rattle.chip.specs.ChipStates.{ChipState, has_power}
 use Rattle.rig.specs.Rigs.{RigState, FuseState, none, after, pulse, refused}
 use Rattle.wire.specs.Jobs.{Job, ret, step}
 
@@ -51,11 +51,11 @@ abbrev pub row_in : List ℕ → ℕ → List ℕ
 row_in m row = first_bytes row_length (drop row m)
 
 -- no step of a job becomes a cut
-abbrev pub Burning : FuseState → Type 0
-Burning none = Unit {0}
-Burning (after zero mask) = ⊥
-Burning (after (suc n) mask) = Unit {0}
+abbrev pub NextUncut : FuseState → Type 0
+NextUncut none = Unit {0}
+NextUncut (after zero mask) = ⊥
+NextUncut (after (suc n) mask) = Unit {0}
 
 abbrev pub Uncut : {A : Type 0} → Job A → RigState → Type 0
 Uncut (ret a) r = Unit {0}
-Uncut (step p k) r = elim (refused p r.line) [ true ↦ Unit {0} | false ↦ Burning r.fuse × Uncut (k (pulse p r).1) (pulse p r).0 ]
+Uncut (step p k) r = elim (refused p r.line) [ true ↦ Unit {0} | false ↦ NextUncut r.fuse × Uncut (k (pulse p r).1) (pulse p r).0 ]

@@ -1,5 +1,5 @@
-pub mod Jobs
-pub mod Wires
 pub mod Exchanges
+pub mod Jobs
 pub mod Laws
+pub mod Outcomes
 pub mod Selection

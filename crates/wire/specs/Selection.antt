@@ -1,10 +1,10 @@
 -- Laws of lines, on which all jobs rest: who listens, who is quiet, who is heard, and what a cut leaves.
 use Rattle.std.specs.Prelude.{◌≡◌, ℕ, ◌^◌, ◌<◌, Bool, true, false, ◌≢◌, ◌⊎◌, List, [], ◌∷◌, ◌++◌, map}
 use Rattle.chip.specs.Chips.{off, on, idle}
-use Rattle.chip.specs.Steps.{ChipState, has_power, is_busy, pull_of, take_bit, cut_chip, opened_by}
+use Rattle.chip.specs.ChipStates.{ChipState, has_power, is_busy, pull_of, take_bit, cut_chip, opened_by}
 use Rattle.chip.specs.Histories.{MetAll}
-use Rattle.line.specs.Lines.{presence, pull, busy}
-use Rattle.rig.specs.Rigs.{none, Pulse, act, answer, deaf, refused}
+use Rattle.line.specs.Lines.{presence, pull, any_busy}
+use Rattle.rig.specs.Rigs.{none, Pulse, line_after, answer, answer_if_cut, refused}
 use Rattle.wire.specs.Jobs.{ret, done, Ran, run}
 use Rattle.wire.specs.Exchanges.{answer as answers, opening, pulses}
 
@@ -23,7 +23,7 @@ opens x e l = run 0 (pulses (opening x e (answers tt)) (λ (_ : Unit {0}). ret t
 -- after a reset that found a chip and 55h with a number, every chip is as `opened_by` says: the powered ones with that number listen
 abbrev pub Selects : Type 0
 Selects =
-    (x e : ℕ) (l : List ChipState) → MetAll l → x < 2 ^ 64 → busy l ≡ false → presence l ≡ true
+    (x e : ℕ) (l : List ChipState) → MetAll l → x < 2 ^ 64 → any_busy l ≡ false → presence l ≡ true
     → ((opens x e l).rig.line ≡ map (opened_by x) l) × ((opens x e l).got ≡ done true)
 
 -- and the others are quiet
@@ -42,7 +42,7 @@ OneHeard = (us vs : List ChipState) (c : ChipState) → QuietEach us → QuietEa
 abbrev pub CutSilent : Type 0
 CutSilent =
     (mask : ℕ) (l : List ChipState) (p : Pulse)
-    → (refused p (map (cut_chip mask) l) ≡ false) × (answer p (map (cut_chip mask) l) ≡ deaf p) × (act p (map (cut_chip mask) l) ≡ map (cut_chip mask) l)
+    → (refused p (map (cut_chip mask) l) ≡ false) × (answer p (map (cut_chip mask) l) ≡ answer_if_cut p) × (line_after p (map (cut_chip mask) l) ≡ map (cut_chip mask) l)
 
 -- the laws of lines together
 pub record LineLaws : Type 0 where

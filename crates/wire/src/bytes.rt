@@ -1,11 +1,11 @@
 ghost use Rattle.std.specs.Prelude.{◌≡◌, [], ◌∷◌};
-ghost use Rattle.rig.specs.Meaning.{counting};
-ghost use Rattle.wire.specs.Wires.{does, sends, reads, reads_byte};
+ghost use Rattle.rig.specs.RigModel.{counting};
+ghost use Rattle.wire.specs.Outcomes.{does, sends, reads, reads_byte};
 
-use bits::words::ShiftIn;
-use line::bus::Line;
-use rig::fault::RigFault;
-use rig::master::Rig;
+use base::shift_in::ShiftIn;
+use line::line::Line;
+use rig::rig_fault::RigFault;
+use rig::rig::Rig;
 
 pub fn send_byte<L: Line>(rig: &mut Rig<L>, byte: u8) -> Result<(), RigFault>
     ensures { (counting L.chips rig.new, result) ≡ does (sends (byte ∷ [])) (counting L.chips rig.old) }

@@ -2,6 +2,6 @@
 #![tactic(auto)]
 
 pub mod bytes;
-pub mod fault;
+pub mod exchange_fault;
 pub mod opening;
 pub mod target;

@@ -1,17 +1,17 @@
 ghost use Rattle.std.specs.Prelude.{◌≡◌};
-ghost use Rattle.rig.specs.Meaning.{counting};
-ghost use Rattle.wire.specs.Exchanges.{JobBegan, begins, present};
+ghost use Rattle.rig.specs.RigModel.{counting};
+ghost use Rattle.wire.specs.Exchanges.{JobBegins, resets_and_matches, present};
 
 use crate::bytes::{send_byte, send_bytes};
-use crate::fault::{ExchangeFault, Why};
-use chip::command::NumberCommand;
-use line::bus::Line;
-use number::registration::Number;
-use rig::master::Rig;
+use crate::exchange_fault::{ExchangeFault, ExchangeError};
+use chip::rom_command::RomCommand;
+use line::line::Line;
+use base::registration_number::RegistrationNumber;
+use rig::rig::Rig;
 
 // A job begins, its steps counted from 0; refusal 3 while the line is busy, with all unchanged.
 pub fn begin_job<L: Line>(rig: &mut Rig<L>) -> Result<(), ExchangeFault>
-    ensures { JobBegan (counting L.chips rig.old) (counting L.chips rig.new) result }
+    ensures { JobBegins (counting L.chips rig.old) (counting L.chips rig.new) result }
 {
     Ok(rig.begin_job()?)
 }
@@ -23,16 +23,16 @@ pub fn expect_presence<L: Line>(rig: &mut Rig<L>, exchange: u8) -> Result<(), Ex
     if rig.reset()? {
         Ok(())
     } else {
-        Err(ExchangeFault::found(rig, Why::NoPresence, exchange))
+        Err(ExchangeFault::found(rig, ExchangeError::NoPresence, exchange))
     }
 }
 
 // Reset with presence, 55h and the number.
-pub fn begin<L: Line>(rig: &mut Rig<L>, number: Number, exchange: u8) -> Result<(), ExchangeFault>
-    ensures { (counting L.chips rig.new, result) ≡ begins number.word exchange (counting L.chips rig.old) }
+pub fn reset_and_match_rom<L: Line>(rig: &mut Rig<L>, number: RegistrationNumber, exchange: u8) -> Result<(), ExchangeFault>
+    ensures { (counting L.chips rig.new, result) ≡ resets_and_matches number.word exchange (counting L.chips rig.old) }
 {
     expect_presence(rig, exchange)?;
-    send_byte(rig, NumberCommand::MatchNumber.byte())?;
+    send_byte(rig, RomCommand::MatchRom.byte())?;
     send_bytes(rig, &number.bytes())?;
     Ok(())
 }

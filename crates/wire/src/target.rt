@@ -1,14 +1,14 @@
 ghost use Rattle.std.specs.Prelude.{◌≡◌, ◌∷◌};
-ghost use Rattle.memory.specs.Commands.{byte_of};
-ghost use Rattle.sums.specs.Sums.{low_high};
+ghost use Rattle.memory.specs.MemoryCommands.{byte_of};
+ghost use Rattle.base.specs.Crc.{low_high};
 
-use memory::command::MemoryCommand;
-use number::registration::Number;
+use memory::memory_command::MemoryCommand;
+use base::registration_number::RegistrationNumber;
 
 // A row of the tag with a number.
 #[derive(Clone, Copy)]
 pub struct Target {
-    pub number: Number,
+    pub number: RegistrationNumber,
     pub row: u16,
 }
 

@@ -3,11 +3,11 @@ use Rattle.std.proofs.lemmas.List.{drop-set-lt, get_or-take, length-take}
 use Rattle.std.proofs.lemmas.Grind.{drop_more_same}
 use Rattle.chip.specs.Histories.{MetAll}
 use Rattle.rig.specs.Rigs.{RigState}
-use Rattle.rig.specs.Meaning.{rig_of, counting}
+use Rattle.rig.specs.RigModel.{rig_of, counting}
 use Rattle.history.specs.Calls.{Reply}
 use Rattle.history.specs.Identity.{EndsByBytes}
 use Rattle.history.specs.Laws.{numbers}
-use Rattle.history.specs.Meaning.{request_of, form_of, form_asked, tally, AllUnfilled}
+use Rattle.history.specs.CallMeaning.{request_of, form_of, form_asked, tally, AllUnfilled}
 use Rattle.history.specs.Promises.{VerdictsTrue}
 use Rattle.history.proofs.Runs.{Played, played_more, forms_more, tally_more, unfilled_more}
 use Rattle.history.specs.declared.calls.Call.{Call}

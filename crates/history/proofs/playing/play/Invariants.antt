@@ -1,8 +1,8 @@
 use Rattle.std.proofs.Common.{◌≡◌, map, take, drop}
 use Rattle.chip.specs.Histories.{MetAll}
-use Rattle.rig.specs.Meaning.{rig_of, counting}
+use Rattle.rig.specs.RigModel.{rig_of, counting}
 use Rattle.history.specs.Calls.{serve_all}
-use Rattle.history.specs.Meaning.{request_of, reply_of, form_of, form_asked, tally, AllUnfilled}
+use Rattle.history.specs.CallMeaning.{request_of, reply_of, form_of, form_asked, tally, AllUnfilled}
 use Rattle.history.specs.Promises.{VerdictsTrue}
 use Rattle.history.proofs.playing.play.Given as goal
 

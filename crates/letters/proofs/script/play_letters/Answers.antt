@@ -1,7 +1,7 @@
 use Rattle.std.proofs.Common.{◌+◌, ◌≡◌, ◌<◌, length, get_or, ◌∙◌, arith}
 use Rattle.std.proofs.lemmas.List.{drop-set-lt, get_or-take, length-take}
 use Rattle.std.proofs.lemmas.Grind.{drop_more_same}
-use Rattle.rig.specs.Meaning.{rig_of, counting}
+use Rattle.rig.specs.RigModel.{rig_of, counting}
 use Rattle.letters.proofs.Letter.{letter_more, count_more}
 use Rattle.letters.proofs.script.play_letters.Goals as goal
 

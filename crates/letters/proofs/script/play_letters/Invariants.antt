@@ -1,5 +1,5 @@
 use Rattle.std.proofs.Common.{◌≡◌, take, drop}
-use Rattle.rig.specs.Meaning.{rig_of, counting}
+use Rattle.rig.specs.RigModel.{rig_of, counting}
 use Rattle.letters.specs.Letters.{count_all}
 use Rattle.letters.proofs.Letter.{Printed}
 use Rattle.letters.proofs.script.play_letters.Given as goal

@@ -1,5 +1,5 @@
 use Rattle.std.proofs.Common.{◌≡◌, length}
-use Rattle.rig.specs.Meaning.{rig_of}
+use Rattle.rig.specs.RigModel.{rig_of}
 use Rattle.letters.proofs.Parts.{Answered}
 use Rattle.letters.proofs.stream.answer_all.Given as goal
 

@@ -1,15 +1,15 @@
 use Rattle.std.proofs.Common.{Err, refl, ap, ◌∙◌, subst, arith}
-use Rattle.kind.proofs.Programming.{bytes_of_slice}
-use Rattle.line.specs.Lines.{busy}
+use Rattle.kinds.proofs.Programming.{bytes_of_slice}
+use Rattle.line.specs.Lines.{any_busy}
 use Rattle.rig.specs.Rigs.{RigState}
-use Rattle.rig.specs.Meaning.{rig_of, counting}
-use Rattle.rig.specs.declared.fault.RigFault.TheVariants.{LineBusy}
-use Rattle.wire.specs.declared.fault.ExchangeFault.TheVariants.{Rig}
+use Rattle.rig.specs.RigModel.{rig_of, counting}
+use Rattle.rig.specs.declared.rig_fault.RigFault.TheVariants.{LineBusy}
+use Rattle.wire.specs.declared.exchange_fault.ExchangeFault.TheVariants.{Rig}
 use Rattle.wire.proofs.Steps.{exits}
-use Rattle.order.specs.declared.fault.OrderFault.TheVariants.{Exchange as InExchange}
+use Rattle.order.specs.declared.order_fault.OrderFault.TheVariants.{Exchange as InExchange}
 use Rattle.order.specs.Orders.{Verdict, order_call}
-use Rattle.order.specs.Laws.{Began}
-use Rattle.order.specs.Meaning.{order_verdict}
+use Rattle.order.specs.Laws.{OrderBegan}
+use Rattle.order.specs.OrderOutcomes.{order_verdict}
 use Rattle.order.proofs.Chain.{row_refused, order_busy, order_called, order_counted}
 use Rattle.order.proofs.Truth.{order-tells}
 use Rattle.order.proofs.Quiet.{busy_unchanged, leaves_free, uncopied}
@@ -58,10 +58,10 @@ returns g c =
       told = told;
       counted =
           order_counted c.args.number.word c.args.row c.args.new.now c.order_steps.result (counting g.L.Line.chips c.args.rig.now).steps
-          (ap (λ d. busy d.rig.line) b.1 ∙ b.0) c.order_steps.ensures;
+          (ap (λ d. any_busy d.rig.line) b.1 ∙ b.0) c.order_steps.ensures;
       here = λ met began one.
           order-tells (rig_of g.L.Line.chips c.args.rig.now) c.args.number.word c.args.row c.args.new.now met c.args.number.wide (omega arith) c.told-new
-          (bytes_of_slice c.args.new.now c.fits-new) (subst (λ (t : RigState × Verdict). Began t.1) told began) one;
+          (bytes_of_slice c.args.new.now c.fits-new) (subst (λ (t : RigState × Verdict). OrderBegan t.1) told began) one;
       tells = order-tells;
       unchanged = busy_unchanged;
       free = leaves_free;

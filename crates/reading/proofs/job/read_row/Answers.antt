@@ -1,12 +1,12 @@
 use Rattle.std.proofs.Common.{◌≡◌, ℕ, List, map, Err, sym, refl, ap, ◌∙◌, true≢false, arith}
-use Rattle.chip.specs.Steps.{bytes_of}
+use Rattle.chip.specs.ChipStates.{bytes_of}
 use Rattle.rig.specs.Rigs.{RigState}
-use Rattle.line.specs.Lines.{busy}
-use Rattle.rig.specs.Meaning.{rig_of, counting}
-use Rattle.rig.specs.declared.fault.RigFault.TheVariants.{LineBusy}
-use Rattle.wire.specs.declared.fault.ExchangeFault.TheVariants.{Rig}
-use Rattle.reading.specs.declared.fault.ReadFault.TheVariants.{Exchange as InExchange}
-use Rattle.reading.specs.Meaning.{read_report}
+use Rattle.line.specs.Lines.{any_busy}
+use Rattle.rig.specs.RigModel.{rig_of, counting}
+use Rattle.rig.specs.declared.rig_fault.RigFault.TheVariants.{LineBusy}
+use Rattle.wire.specs.declared.exchange_fault.ExchangeFault.TheVariants.{Rig}
+use Rattle.reading.specs.declared.read_fault.ReadFault.TheVariants.{Exchange as InExchange}
+use Rattle.reading.specs.ReadOutcomes.{read_report}
 use Rattle.wire.specs.Jobs.{Report}
 use Rattle.reading.specs.Readings.{read_call}
 use Rattle.wire.proofs.Steps.{exits}
@@ -67,7 +67,7 @@ returns-in_err-found g c =
     rw (exits c.from_residual-in_err-found.ensures.1)
     (record {
       told = told;
-      counted = count_err c.args.number.word c.args.row f (counting g.L.Line.chips c.args.rig.now).steps (ap (λ d. busy d.rig.line) b.1 ∙ b.0) c.in_err-found.ensures;
+      counted = count_err c.args.number.word c.args.row f (counting g.L.Line.chips c.args.rig.now).steps (ap (λ d. any_busy d.rig.line) b.1 ∙ b.0) c.in_err-found.ensures;
       kept = λ _. refl;
       bytes = same (rig_of g.L.Line.chips c.args.rig.now) c.args.number.word c.args.row told;
       here = λ met al b one. reading-tells (rig_of g.L.Line.chips c.args.rig.now) c.args.number.word c.args.row met c.args.number.wide al (omega arith) b one;

@@ -1,6 +1,6 @@
 use Rattle.std.proofs.Common.{◌≡◌, ℕ, ◌+◌}
-use Rattle.rig.specs.Meaning.{counting}
-use Rattle.wire.specs.Wires.{does, reads_byte}
+use Rattle.rig.specs.RigModel.{counting}
+use Rattle.wire.specs.Outcomes.{does, reads_byte}
 use Rattle.wire.proofs.Steps.{read_rest}
 use Rattle.wire.proofs.bytes.read_byte.Given as goal
 

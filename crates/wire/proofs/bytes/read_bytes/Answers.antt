@@ -1,7 +1,7 @@
 use Rattle.std.proofs.Common.{◌≡◌, suc, ◌-◌, ◌<◌, ◌≤◌, [], ◌∷◌, ◌++◌, length, take, set, Ok, sym, ap, ◌∙◌, append-nil, add-one, arith, length-set, take_all, take-suc-set}
 use lib.ListN.{length-replicate}
-use Rattle.rig.specs.Meaning.{counting}
-use Rattle.wire.specs.Wires.{does, reads, reads_byte}
+use Rattle.rig.specs.RigModel.{counting}
+use Rattle.wire.specs.Outcomes.{does, reads, reads_byte}
 use Rattle.wire.proofs.Steps.{exits, does-ret, bind_ok, bind_err, reads_rest, reads_more}
 use Rattle.wire.proofs.bytes.read_bytes.Goals as goal
 

@@ -1,6 +1,6 @@
 use Rattle.std.proofs.Common.{◌≡◌, ℕ, ◌+◌, length, take}
-use Rattle.rig.specs.Meaning.{counting}
-use Rattle.wire.specs.Wires.{does, reads}
+use Rattle.rig.specs.RigModel.{counting}
+use Rattle.wire.specs.Outcomes.{does, reads}
 use Rattle.wire.proofs.Steps.{reads_rest}
 use Rattle.wire.proofs.bytes.read_bytes.Given as goal
 

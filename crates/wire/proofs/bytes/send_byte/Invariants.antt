@@ -1,9 +1,9 @@
 use Rattle.std.proofs.Common.{◌≡◌, ℕ, ◌+◌, [], ◌∷◌}
-use Rattle.bits.specs.Bits.{bits_of}
+use Rattle.base.specs.Bits.{bits_of}
 use Rattle.wire.specs.Jobs.{ret}
 use Rattle.wire.specs.Jobs.{send_bits}
-use Rattle.rig.specs.Meaning.{counting}
-use Rattle.wire.specs.Wires.{does, sends}
+use Rattle.rig.specs.RigModel.{counting}
+use Rattle.wire.specs.Outcomes.{does, sends}
 use Rattle.wire.proofs.bytes.send_byte.Given as goal
 
 -- what is left to do from here is what the whole does from the start

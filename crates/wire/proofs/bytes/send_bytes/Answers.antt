@@ -1,7 +1,7 @@
 use Rattle.std.proofs.Common.{◌+◌, [], ◌∷◌, get_or, drop, sym, ap, ◌∙◌}
 use Rattle.std.proofs.lemmas.List.{at_drop_more, at_drop_all}
-use Rattle.rig.specs.Meaning.{counting}
-use Rattle.wire.specs.Wires.{does, sends}
+use Rattle.rig.specs.RigModel.{counting}
+use Rattle.wire.specs.Outcomes.{does, sends}
 use Rattle.wire.proofs.Steps.{exits, bind_ok, bind_err, sends_more, sends_none}
 use Rattle.wire.proofs.bytes.send_bytes.Goals as goal
 

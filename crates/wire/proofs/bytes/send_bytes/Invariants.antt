@@ -1,6 +1,6 @@
 use Rattle.std.proofs.Common.{◌≡◌, drop}
-use Rattle.rig.specs.Meaning.{counting}
-use Rattle.wire.specs.Wires.{does, sends}
+use Rattle.rig.specs.RigModel.{counting}
+use Rattle.wire.specs.Outcomes.{does, sends}
 use Rattle.wire.proofs.bytes.send_bytes.Given as goal
 
 abbrev pub invariant-loop-byte : goal.invariant-loop-byte

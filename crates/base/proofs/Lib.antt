@@ -1,0 +1,3 @@
+pub mod Choice
+pub mod CrcRegister
+pub mod Queues

@@ -1,0 +1,8 @@
+// Bits on the wire, the lowest first.
+#![tactic(auto)]
+
+pub mod bit_queue;
+pub mod crc;
+pub mod refusal;
+pub mod registration_number;
+pub mod shift_in;

@@ -1,0 +1,19 @@
+ghost use Rattle.std.specs.Prelude.{◌^◌, ◌<◌};
+ghost use Rattle.base.specs.RegistrationNumbers.{IsChecked};
+
+pub mod making;
+
+// A registration number: family code, six serial bytes and the CRC-8 of those seven, the family code in the lowest byte.
+// Ghost fields and no model: whoever holds a number learns from them that its check byte is right.
+#[derive(Clone, Copy)]
+pub struct RegistrationNumber {
+    word: u64,
+    ghost checked: { IsChecked word },
+    ghost wide: { word < 2 ^ 64 },
+}
+
+// Why no number is made.
+#[derive(Clone, Copy, Debug, PartialEq, Eq)]
+pub enum RegistrationNumberFault {
+    WrongSum,
+}

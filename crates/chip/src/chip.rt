@@ -1,0 +1,184 @@
+ghost use Rattle.std.specs.Prelude.{◌≡◌};
+ghost use Rattle.memory.specs.Memories.{protocols};
+ghost use Rattle.chip.specs.Chips.{on, at, select, run_command, command_of};
+ghost use Rattle.chip.specs.ChipStates.{made_chip, has_power, is_busy, pull_of, take_bit, reset_chip, dwell_chip, cut_chip, power_chip};
+ghost use Rattle.chip.specs.ChipModel.{model, phase_of};
+
+use crate::rom_phase::{Live, RomPhase};
+use base::bit_queue::{Incoming, Outgoing};
+use memory::memory_protocol::Protocol;
+use base::registration_number::RegistrationNumber;
+
+// No `impl Model`: the value of a memory holds the rules of its kind, which are functions, and a function has no code.
+#[derive(Drop)]
+pub struct Chip<P> {
+    number: RegistrationNumber,
+    live: Option<Live>,
+    memory: P,
+}
+
+impl<P: Protocol> Chip<P> {
+    // A chip without power.
+    pub fn new(number: RegistrationNumber, behind: P) -> Chip<P>
+        ensures { model P.memory result ≡ made_chip number.word (P.memory behind) }
+    {
+        Chip {
+            number,
+            live: None,
+            memory: behind,
+        }
+    }
+
+    pub fn has_power(&self) -> bool
+        ensures { result ≡ has_power (model P.memory self.now) }
+    {
+        self.live.is_some()
+    }
+
+    // It has power and is programming.
+    pub fn is_busy(&self) -> bool
+        ensures { result ≡ is_busy (model P.memory self.now) }
+    {
+        match self.live {
+            Some(
+                Live {
+                    phase: RomPhase::Selected,
+                    ..
+                },
+            ) => self.memory.is_programming(),
+            _ => false,
+        }
+    }
+
+    // The bit that it pulls, true where it pulls nothing.
+    pub fn pull(&self) -> bool
+        ensures { result ≡ pull_of (model P.memory self.now) }
+    {
+        let Some(Live { phase, .. }) = self.live else {
+            return true;
+        };
+        match phase {
+            RomPhase::SendRom { rest } | RomPhase::SearchBit { rest } => rest.bit(),
+            RomPhase::SearchComplement { rest } => !rest.bit(),
+            RomPhase::Selected => self.memory.pull(),
+            _ => true,
+        }
+    }
+
+    pub fn power_up(&mut self)
+        ensures { model P.memory self.new ≡ power_chip (model P.memory self.old) }
+    {
+        if self.live.is_none() {
+            self.enter(false, RomPhase::Idle);
+            self.memory.power_up();
+        }
+    }
+
+    pub fn reset(&mut self)
+        ensures { model P.memory self.new ≡ reset_chip (model P.memory self.old) }
+    {
+        match self.live {
+            Some(Live { rc, .. }) if !self.is_busy() => self.enter(
+                rc,
+                RomPhase::Command {
+                    bits: Incoming::none(),
+                },
+            ),
+            _ => {}
+        }
+    }
+
+    pub fn dwell(&mut self)
+        ensures { model P.memory self.new ≡ dwell_chip (model P.memory self.old) }
+    {
+        if self.is_busy() {
+            self.memory.dwell();
+        }
+    }
+
+    pub fn cut(&mut self, mask: u64)
+        ensures { model P.memory self.new ≡ cut_chip mask (model P.memory self.old) }
+    {
+        if self.is_busy() {
+            self.memory.cut(mask);
+        }
+        self.live = None;
+    }
+
+    // One taken bit.
+    pub fn take(&mut self, bit: bool)
+        ensures { model P.memory self.new ≡ take_bit bit (model P.memory self.old) }
+    {
+        let Some(Live { rc, phase }) = self.live else {
+            return;
+        };
+        match (phase, bit) {
+            (RomPhase::Idle, _) => {}
+            (RomPhase::Command { mut bits }, bit) => match bits.push(bit) {
+                None => self.enter(rc, RomPhase::Command { bits }),
+                Some(byte) => self.run_command(rc, byte),
+            },
+            (RomPhase::SendRom { rest }, _) => match rest.next() {
+                Some(rest) => self.enter(rc, RomPhase::SendRom { rest }),
+                None => self.select(rc),
+            },
+            (RomPhase::MatchBits { rest }, bit) => {
+                if rest.bit() != bit {
+                    self.enter(rc, RomPhase::Idle);
+                } else if let Some(rest) = rest.next() {
+                    self.enter(rc, RomPhase::MatchBits { rest });
+                } else {
+                    self.select(true);
+                }
+            }
+            (RomPhase::SearchBit { rest }, _) => self.enter(rc, RomPhase::SearchComplement { rest }),
+            (RomPhase::SearchComplement { rest }, _) => self.enter(rc, RomPhase::SearchDirection { rest }),
+            (RomPhase::SearchDirection { rest }, bit) => {
+                if rest.bit() != bit {
+                    self.enter(rc, RomPhase::Idle);
+                } else if let Some(rest) = rest.next() {
+                    self.enter(rc, RomPhase::SearchBit { rest });
+                } else {
+                    self.select(true);
+                }
+            }
+            (RomPhase::Selected, bit) => self.memory.take(bit),
+        }
+    }
+
+    // On to a phase. RC and the phase are two arguments: `enter(false, RomPhase::Idle)` is plainer than with a `Live` written out.
+    fn enter(&mut self, rc: bool, phase: RomPhase)
+        ensures chip { model P.memory self.new ≡ at protocols (model P.memory self.old) (on rc (phase_of phase)) }
+        ensures memory { self.new.memory ≡ self.old.memory }
+    {
+        self.live = Some(Live { rc, phase });
+    }
+
+    // The memory phase begins.
+    fn select(&mut self, rc: bool)
+        ensures { model P.memory self.new ≡ select protocols (model P.memory self.old) rc }
+    {
+        self.enter(rc, RomPhase::Selected);
+        self.memory.select();
+    }
+
+    // A command of the ROM phase.
+    fn run_command(&mut self, rc: bool, byte: u8)
+        ensures { model P.memory self.new ≡ run_command protocols (command_of byte) rc (model P.memory self.old) }
+    {
+        let rest = Outgoing::from(self.number.word());
+        match byte {
+            // Read Number.
+            0x33 => self.enter(false, RomPhase::SendRom { rest }),
+            // Match Number.
+            0x55 => self.enter(false, RomPhase::MatchBits { rest }),
+            // Seek Number.
+            0xF0 => self.enter(false, RomPhase::SearchBit { rest }),
+            // Skip Number.
+            0xCC => self.select(false),
+            // Resume.
+            0xA5 if rc => self.select(true),
+            _ => self.enter(rc, RomPhase::Idle),
+        }
+    }
+}

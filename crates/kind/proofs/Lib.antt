@@ -1,2 +1,0 @@
-pub mod Blending
-pub mod Programming

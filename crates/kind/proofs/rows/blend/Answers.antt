@@ -1,6 +1,0 @@
-use Rattle.std.proofs.Common.{rules}
-use Rattle.kind.proofs.Blending.{blend_word}
-use Rattle.kind.proofs.rows.blend.Goals as goal
-
-pub returns : goal.returns
-returns c = blend_word 8 c.args.mask c.args.new c.args.old (search rules) (search rules) (search rules)

@@ -1,0 +1,3 @@
+pub mod Blending
+pub mod Programming
+pub mod Protection

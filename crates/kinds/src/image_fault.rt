@@ -1,0 +1,22 @@
+ghost use Rattle.std.specs.Prelude.{◌≡◌};
+ghost use Rattle.base.specs.Refusals.{code_of};
+ghost use Rattle.kinds.specs.ImageMaking.{refusal};
+
+use base::refusal::Refusal;
+
+// Why no tag is made.
+#[derive(Clone, Copy, Debug, PartialEq, Eq)]
+pub enum ImageFault {
+    WrongLength,
+}
+
+impl ImageFault {
+    // A method, as of every fault: `fault.refusal()` says what is asked of it, and `Refusal::from(fault)` would not.
+    pub fn refusal(&self) -> Refusal
+        ensures { code_of result ≡ refusal self.now }
+    {
+        match self {
+            ImageFault::WrongLength => Refusal::WrongLength,
+        }
+    }
+}

@@ -1,0 +1,27 @@
+ghost use Rattle.std.specs.Prelude.{◌≡◌, OnErr};
+ghost use Rattle.memory.specs.Memories.{padded};
+ghost use Rattle.memory.specs.ScratchpadModel.{model};
+ghost use Rattle.line.specs.TagMaking.{placing, place_of, answer_of, MadeMet};
+
+use kinds::image_fault::ImageFault;
+use kinds::kind::Kind;
+use crate::ends::OneTag;
+use base::registration_number::RegistrationNumber;
+use memory::scratchpad_memory::ScratchpadMemory;
+
+// A tag with its number and the bytes of an image, without power, in a lent place.
+// Refusal 2 where the image is not of the kind's length; the place is then unchanged.
+#[tactic(auto, using(crate::proofs::Fresh::made_met))]
+pub fn make_tag<K: Kind + Drop>(
+    place: &mut Option<OneTag<ScratchpadMemory<K>>>,
+    number: RegistrationNumber,
+    image: &[u8],
+) -> Result<(), ImageFault>
+    ensures told { (place_of (λ p. padded (model K.rules K.bytes p)) place.new, answer_of result) ≡ placing K.rules number.word image.now (place_of (λ p. padded (model K.rules K.bytes p)) place.old) }
+    ensures kept { OnErr result (place.new ≡ place.old) }
+    ensures met { MadeMet }
+{
+    let kind = K::from_image(image)?;
+    *place = Some(OneTag::new(number, ScratchpadMemory::new(kind)));
+    Ok(())
+}

@@ -1,4 +1,0 @@
-// Registration numbers of 1-Wire chips.
-#![tactic(auto)]
-
-pub mod registration;

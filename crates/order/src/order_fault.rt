@@ -1,0 +1,54 @@
+ghost use Rattle.std.specs.Prelude.{◌≡◌, Err};
+ghost use Rattle.order.specs.OrderOutcomes.{order_verdict, refused_by};
+ghost use Rattle.order.specs.declared.order_fault.OrderFault.TheVariants.{Exchange};
+
+use base::refusal::Refusal;
+use wire::exchange_fault::{ExchangeFault, Refused};
+
+// Why an order was refused or failed.
+#[derive(Clone, Copy, Debug, PartialEq, Eq)]
+pub enum OrderFault {
+    BadRow,
+    Exchange(ExchangeFault),
+    // The scratchpad differs from what was sent.
+    Differs { index: usize, steps: u32 },
+    // The row that was found differs from what was ordered.
+    NotHeld { index: usize, steps: u32 },
+}
+
+// No trait shared with the other jobs' faults: an order tells an index too.
+impl OrderFault {
+    // The refusal, the exchange and the steps made; and the first index that differs, of 7 and 8.
+    pub fn refused(&self) -> (Refused, Option<usize>)
+        ensures { refused_by result.0 result.1 ≡ order_verdict (Err self.now) }
+    {
+        match self {
+            OrderFault::BadRow => (Refused::at_once(Refusal::BadRow), None),
+            OrderFault::Exchange(fault) => (fault.refused(), None),
+            OrderFault::Differs { index, steps } => (
+                Refused {
+                    refusal: Refusal::DataDiffer,
+                    exchange: 2,
+                    steps: *steps,
+                },
+                Some(*index),
+            ),
+            OrderFault::NotHeld { index, steps } => (
+                Refused {
+                    refusal: Refusal::NotHeld,
+                    exchange: 5,
+                    steps: *steps,
+                },
+                Some(*index),
+            ),
+        }
+    }
+}
+
+impl From<ExchangeFault> for OrderFault {
+    ghost from_gives = { λ e r. r ≡ Exchange e };
+
+    fn from(e: ExchangeFault) -> OrderFault {
+        OrderFault::Exchange(e)
+    }
+}

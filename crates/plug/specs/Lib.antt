@@ -1,2 +1,0 @@
-pub mod Plug
-pub mod Laws

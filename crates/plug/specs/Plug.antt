@@ -1,6 +1,0 @@
--- The practice plug: 64 bytes, all readable and programmable, with no protection.
-use Rattle.std.specs.Prelude.{ltb}
-use Rattle.kind.specs.Kinds.{Rules}
-
-abbrev pub plug : Rules
-plug = record { n = 64; w = 64; image = 64; made = λ m. m; load = λ m a x. x; copy = λ m row. ltb row 64 }

@@ -1,4 +1,0 @@
-// The practice plug.
-#![tactic(auto)]
-
-pub mod practice;

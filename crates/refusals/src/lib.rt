@@ -1,4 +1,0 @@
-// Refusals and their numbers.
-#![tactic(auto)]
-
-pub mod refusal;

@@ -1,0 +1,13 @@
+pub mod Called
+pub mod Complete
+pub mod Counted
+pub mod Enumerate
+pub mod Following
+pub mod Fronts
+pub mod Passing
+pub mod Searched
+pub mod Seekers
+pub mod Sequences
+pub mod Starts
+pub mod Unrefused
+pub mod Words

@@ -1,0 +1,7 @@
+// The numbers on a line.
+#![tactic(auto)]
+
+pub mod job;
+pub mod pass;
+pub mod search_fault;
+pub mod triplets;

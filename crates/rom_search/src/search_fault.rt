@@ -1,0 +1,42 @@
+ghost use Rattle.std.specs.Prelude.{◌≡◌, ℕ, [], Err};
+ghost use Rattle.wire.specs.Exchanges.{refused_report};
+ghost use Rattle.wire.specs.Jobs.{Report};
+ghost use Rattle.rom_search.specs.SearchOutcomes.{search_answer};
+ghost use Rattle.rom_search.specs.declared.search_fault.SearchFault.TheVariants.{Exchange};
+
+use base::refusal::Refusal;
+use wire::exchange_fault::{ExchangeFault, Refused};
+
+// Why a search was refused or failed; the passes are counted as exchanges are.
+#[derive(Clone, Copy, Debug, PartialEq, Eq)]
+pub enum SearchFault {
+    NoPlace,
+    Full { passes: u8, steps: u32 },
+    Exchange(ExchangeFault),
+}
+
+// No trait shared with the other jobs' faults: each tells a report of another type.
+impl SearchFault {
+    // The refusal, the pass and the steps made.
+    pub fn refused(&self) -> Refused
+        ensures { ◌≡◌ {A = Report ℕ} (refused_report result) (search_answer (Err self.now) []).0 }
+    {
+        match self {
+            SearchFault::NoPlace => Refused::at_once(Refusal::NoPlace),
+            SearchFault::Full { passes, steps } => Refused {
+                refusal: Refusal::NoPlace,
+                exchange: *passes,
+                steps: *steps,
+            },
+            SearchFault::Exchange(fault) => fault.refused(),
+        }
+    }
+}
+
+impl From<ExchangeFault> for SearchFault {
+    ghost from_gives = { λ e r. r ≡ Exchange e };
+
+    fn from(e: ExchangeFault) -> SearchFault {
+        SearchFault::Exchange(e)
+    }
+}

@@ -1,9 +1,0 @@
-use Rattle.std.proofs.Common.{arith}
-use Rattle.samples.proofs.Lines.{stepped_more, stepped_all}
-use Rattle.samples.proofs.many.ManyLine.take.Goals as goal
-
-pub loop-line-preserved : goal.loop-line-preserved
-loop-line-preserved g c = stepped_more g.L.Line.chips c.loop-line.invariant c.line-item.is c.take.ensures (omega arith)
-
-pub returns : goal.returns
-returns g c = stepped_all g.L.Line.chips c.loop-line.invariant (omega arith)

@@ -1,5 +1,0 @@
-// The scratchpad protocol, for any kind of tag.
-#![tactic(auto)]
-
-pub mod pad;
-pub mod phase;

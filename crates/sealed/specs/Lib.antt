@@ -1,4 +1,0 @@
-pub mod Sealed
-pub mod Protection
-pub mod Registers
-pub mod Locks

@@ -1,4 +1,0 @@
-// The sealed tag of a gearbox.
-#![tactic(auto)]
-
-pub mod tag;

@@ -1,4 +1,0 @@
-// Tags of any kind with the scratchpad protocol, made in a lent place.
-#![tactic(auto)]
-
-pub mod making;

@@ -1,0 +1,97 @@
+ghost use Rattle.std.specs.Prelude.{◌≡◌};
+ghost use Rattle.rig.specs.RigModel.{counting};
+ghost use Rattle.base.specs.Refusals.{code_of};
+ghost use Rattle.wire.specs.Jobs.{Report};
+ghost use Rattle.wire.specs.Exchanges.{error_code, fault_report, refused_report};
+ghost use Rattle.wire.specs.declared.exchange_fault.ExchangeFault.TheVariants.{Rig, Failed};
+
+use line::line::Line;
+use base::refusal::Refusal;
+use rig::rig_fault::RigFault;
+use rig::rig::Rig;
+
+// What an exchange found wrong.
+#[derive(Clone, Copy, Debug, PartialEq, Eq)]
+pub enum ExchangeError {
+    NoPresence,
+    Garbled,
+}
+
+// Why an exchange failed: refused by the rig, or what it found, with its number in the job and the steps made.
+#[derive(Clone, Copy, Debug, PartialEq, Eq)]
+pub enum ExchangeFault {
+    Rig(RigFault),
+    Failed { error: ExchangeError, exchange: u8, steps: u32 },
+}
+
+// What a refused job tells: the refusal, the exchange or pass, and the steps made.
+// Exchange 0 is before any step, a number that the rules give and programs print.
+#[derive(Clone, Copy, Debug, PartialEq, Eq)]
+pub struct Refused {
+    pub refusal: Refusal,
+    pub exchange: u8,
+    pub steps: u32,
+}
+
+impl Refused {
+    // Refused before any step.
+    pub fn at_once(refusal: Refusal) -> Refused
+        ensures { (result.refusal ≡ refusal) × (result.exchange ≡ 0) × (result.steps ≡ 0) }
+    {
+        Refused {
+            refusal,
+            exchange: 0,
+            steps: 0,
+        }
+    }
+}
+
+// A method, as of every fault: `fault.refusal()` says what is asked of it, and `Refusal::from(fault)` would not.
+impl ExchangeError {
+    pub fn refusal(&self) -> Refusal
+        ensures { code_of result ≡ error_code self.now }
+    {
+        match self {
+            ExchangeError::NoPresence => Refusal::NoPresence,
+            ExchangeError::Garbled => Refusal::Garbled,
+        }
+    }
+}
+
+impl ExchangeFault {
+    // What an exchange found wrong, with the steps made so far.
+    pub fn found<L: Line>(rig: &Rig<L>, error: ExchangeError, exchange: u8) -> ExchangeFault
+        ensures { result ≡ Failed error exchange (counting L.chips rig.now).steps }
+    {
+        ExchangeFault::Failed {
+            error,
+            exchange,
+            steps: rig.steps(),
+        }
+    }
+
+    pub fn refused(&self) -> Refused
+        ensures { ◌≡◌ {A = Report (Unit {0})} (refused_report result) (fault_report self.now) }
+    {
+        match self {
+            ExchangeFault::Rig(fault) => Refused::at_once(fault.refusal()),
+            ExchangeFault::Failed {
+                error,
+                exchange,
+                steps,
+            } => Refused {
+                refusal: error.refusal(),
+                exchange: *exchange,
+                steps: *steps,
+            },
+        }
+    }
+}
+
+impl From<RigFault> for ExchangeFault {
+    ghost from_gives = { λ e r. r ≡ Rig e };
+
+    fn from(e: RigFault) -> ExchangeFault {
+        ExchangeFault::Rig(e)
+    }
+}
