@@ -5,7 +5,7 @@ ghost use Rattle.base.specs.BitQueues.{Pushes, Moves};
 use std::marker::Model;
 
 // The bits of a byte that have come so far: fewer than eight.
-// A word and a count, seen as a list: a list of bits would be on the heap.
+// A word and a count, seen as a list of bits.
 #[derive(Clone, Copy)]
 pub struct Incoming {
     bits: u8,
@@ -53,7 +53,7 @@ impl Incoming {
     }
 }
 
-// Bits still to go, at least one; a word and a count for the same reason.
+// Bits still to go, at least one. A word and a count, seen as a list of bits.
 #[derive(Clone, Copy)]
 pub struct Outgoing {
     word: u64,
@@ -76,7 +76,6 @@ impl Model for Outgoing {
     ghost inverse_ok = { λ o h. kept (λ x n. record { word = x; left = n }) o.left o.word h.1 };
 }
 
-// A body for each width: each makes another list of bits.
 impl From<u8> for Outgoing {
     ghost from_gives = { λ byte o. o ≡ bits_of 8 byte };
 

@@ -6,3 +6,6 @@ pub mod crc;
 pub mod refusal;
 pub mod registration_number;
 pub mod shift_in;
+
+pub use refusal::Refusal;
+pub use registration_number::RegistrationNumber;

@@ -4,7 +4,7 @@ ghost use Rattle.base.specs.RegistrationNumbers.{IsChecked};
 pub mod making;
 
 // A registration number: family code, six serial bytes and the CRC-8 of those seven, the family code in the lowest byte.
-// Ghost fields and no model: whoever holds a number learns from them that its check byte is right.
+// Whoever holds one learns from its ghost fields that its check byte is right.
 #[derive(Clone, Copy)]
 pub struct RegistrationNumber {
     word: u64,

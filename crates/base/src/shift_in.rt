@@ -2,7 +2,6 @@ ghost use Rattle.std.specs.Prelude.{◌≡◌, ℕ};
 ghost use Rattle.base.specs.Shifting.{shifted};
 
 // A word that takes bits from above: its lowest bit leaves it, and the new one is its highest.
-// A body for each width: the language has no arithmetic over every unsigned type.
 pub trait ShiftIn: Sized {
     // What its highest bit counts.
     ghost top: { ℕ };

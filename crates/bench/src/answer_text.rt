@@ -1,13 +1,13 @@
-use history::calls::Answer;
+use base::Refusal;
+use history::Answer;
 use kinds::row::ROW;
-use order::order_fault::OrderFault;
-use reading::read_fault::ReadFault;
-use base::refusal::Refusal;
+use order::OrderFault;
+use reading::ReadFault;
+use rom_search::SearchFault;
+use rom_search::job::MOST_PLACES;
 use samples::hex::Hex;
 use samples::refused::RefusedAt;
 use std::fmt;
-use rom_search::search_fault::SearchFault;
-use rom_search::job::MOST_PLACES;
 
 // Whether something was made, or the number of the refusal.
 #[derive(Clone, Copy)]
@@ -33,8 +33,8 @@ impl fmt::Display for Said {
             Answer::Presence(Ok(true)) => f.write_str("presence"),
             Answer::Bit(Ok(false)) => f.write_str("0"),
             Answer::Bit(Ok(true)) => f.write_str("1"),
-            Answer::Presence(Err(fault)) | Answer::Bit(Err(fault)) => {
-                write!(f, "refused with {}", fault.refusal())
+            Answer::Presence(Err(refusal)) | Answer::Bit(Err(refusal)) => {
+                write!(f, "refused with {refusal}")
             }
             Answer::Done => f.write_str("done"),
             Answer::Listed { outcome, places } => say_list(f, outcome, places),

@@ -1,14 +1,14 @@
 use crate::pulses::Pulses;
 use anyhow::{Context, bail, ensure};
-use chip::rom_command::RomCommand;
-use memory::memory_command::MemoryCommand;
-use base::registration_number::RegistrationNumber;
-use rig::rig::Rig;
+use base::RegistrationNumber;
+use base::crc::crc16;
+use chip::RomCommand;
+use kinds::SealedTag;
+use memory::MemoryCommand;
+use rig::Rig;
 use samples::hex::Hex;
 use samples::numbers::{CLUTCH, gearbox_number, number_of};
 use samples::tags::{Tag, tag_of};
-use kinds::sealed_tag::SealedTag;
-use base::crc::crc16;
 
 // The row that takes the clutch values.
 const ROW: u16 = 0x0040;
@@ -38,7 +38,7 @@ pub fn run(rt: &HostRuntime) -> anyhow::Result<()> {
     ensure!(found == CLUTCH, "the row is not as written");
     let steps = driven.pulses.rig.steps();
     println!(rt;
-        "Done: row {ROW:04X}h holds the clutch values, in {steps} steps: 6 reset_pulse, 1 dwell, {} slot_pulse.",
+        "Done: row {ROW:04X}h holds the clutch values, in {steps} steps: 6 resets, 1 dwell, {} slots.",
         steps.saturating_sub(7)
     )?;
     Ok(())

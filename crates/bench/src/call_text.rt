@@ -1,7 +1,7 @@
-use history::calls::Call;
+use base::RegistrationNumber;
+use history::Call;
 use kinds::row::ROW;
-use base::registration_number::RegistrationNumber;
-use rig::rig::Fuse;
+use rig::Fuse;
 use samples::hex::Hex;
 use std::fmt;
 

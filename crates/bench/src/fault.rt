@@ -1,4 +1,4 @@
-use rig::rig_fault::RigFault;
+use rig::RigFault;
 use std::error::Error;
 use std::fmt;
 

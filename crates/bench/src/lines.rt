@@ -1,18 +1,17 @@
-use crate::runs::{Alone, Crowd, Pair};
 use crate::answer_text::Made;
+use crate::runs::{Alone, Crowd, Pair};
 use crate::session::Session;
-use line::ends::Joint;
-use base::registration_number::RegistrationNumber;
-use kinds::practice_plug::PracticePlug;
+use base::RegistrationNumber;
+use kinds::{PracticePlug, SealedTag};
+use line::Joint;
+use line::tag_making::make_tag;
 use samples::hex::Hex;
 use samples::numbers::{
     GEARBOX, SEALED, WRONG_GEARBOX, WRONG_SEALED, gearbox_number, plug_number, sealed_number,
 };
 use samples::plugs::many_plugs;
 use samples::tags::{Tag, own_addresses, tag_of};
-use kinds::sealed_tag::SealedTag;
 use std::io;
-use line::tag_making::make_tag;
 
 pub fn gearbox(rt: &HostRuntime) -> anyhow::Result<()> {
     tell_numbers(rt)?;
@@ -34,7 +33,7 @@ fn tell_numbers(rt: &HostRuntime) -> io::Result<()> {
         let made = RegistrationNumber::try_from(word)
             .map(|_| ())
             .map_err(|fault| fault.refusal());
-        println!(rt; "RegistrationNumber {}: {}.", Hex(&word.to_le_bytes()), Made(made))?;
+        println!(rt; "Number {}: {}.", Hex(&word.to_le_bytes()), Made(made))?;
     }
     Ok(())
 }

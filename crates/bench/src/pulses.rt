@@ -1,12 +1,11 @@
 use crate::fault::PulseFault;
-use chip::rom_command::RomCommand;
-use line::line::Line;
-use base::registration_number::RegistrationNumber;
-use rig::rig::Rig;
+use base::RegistrationNumber;
+use chip::RomCommand;
+use line::Line;
+use rig::Rig;
 use wire::bytes::{read_bytes, send_bytes};
 
 // A rig driven pulse by pulse, and the runtime that prints what was seen.
-// Not the session, which plays calls: here each exchange is made of its pulses.
 #[derive(Drop)]
 pub struct Pulses<'a, L> {
     pub rt: &'a HostRuntime,

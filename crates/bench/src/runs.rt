@@ -1,13 +1,12 @@
 use crate::session::Session;
-use history::calls::Call;
-use line::ends::Joint;
-use base::registration_number::RegistrationNumber;
-use rig::rig::Fuse;
-use line::line_array::LineArray;
+use base::RegistrationNumber;
+use history::Call;
+use kinds::SealedTag;
+use line::{Joint, LineArray};
+use rig::Fuse;
 use samples::numbers::CLUTCH;
 use samples::plugs::{MANY, Plug};
 use samples::tags::Tag;
-use kinds::sealed_tag::SealedTag;
 use std::io;
 
 type Sealed = Tag<SealedTag>;
@@ -238,7 +237,7 @@ impl Pair<'_> {
     // The scratchpad still holds the plug's last row when it is copied once more.
     fn copy_again(&mut self) -> io::Result<()> {
         self.session.rt.println(
-            "The plug takes an order, then slot_pulse with CCh, 55h, 08h, 00h, 87h; it programs again.",
+            "The plug takes an order, then slots with CCh, 55h, 08h, 00h, 87h; it programs again.",
         )?;
         self.session
             .ask(&[Call::PowerUp, order(self.plug, 0x08, NEW), Call::Reset])?;

@@ -1,9 +1,9 @@
-use crate::call_text::Asked;
 use crate::answer_text::Said;
-use history::calls::{Answer, Call};
+use crate::call_text::Asked;
 use history::playing::play;
-use line::line::Line;
-use rig::rig::Rig;
+use history::{Answer, Call};
+use line::Line;
+use rig::Rig;
 use std::{array, io};
 
 // A rig, and the runtime that prints what was asked of it and answered.

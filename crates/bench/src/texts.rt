@@ -1,8 +1,8 @@
 #[cfg(test)]
 mod tests {
-    use crate::fault::PulseFault;
     use crate::answer_text::Made;
-    use base::refusal::Refusal;
+    use crate::fault::PulseFault;
+    use base::Refusal;
     use std::test::Fail;
 
     #[test]

@@ -3,7 +3,7 @@ use Rattle.std.proofs.Common.{◌≡◌, ℕ, Bool, true, false, List, [], ◌�
 use Rattle.base.specs.Bits.{value, same, full, front_bit, rest_bits, none_left}
 use Rattle.base.proofs.Choice.{pick}
 use Rattle.kinds.specs.Kinds.{whole_row}
-use Rattle.memory.specs.Memories.{Memory, Protocol, protocols, bytes_in, kind_in, cut_memory, dwell_memory}
+use Rattle.memory.specs.Memories.{Memory, Protocol, protocols, bytes_in, kind_in, cut_memory, dwell_memory, HasScratchpad}
 use Rattle.memory.proofs.Keeps.{begin_bytes, take_bytes, wake_bytes, dwell_bytes, wake_same}
 use Rattle.chip.specs.Chips.{ChipOver, Live, off, on, Phase, idle, command, sending, matching, searching, rom_bit, complement, direction, selected, Command, read_rom, match_rom, search_rom, skip_rom, resume, unknown, command_of, run_command, after_agreed, select, take_in, take_live, powered}
 use Rattle.chip.specs.ChipStates.{ChipState, made_chip, bytes_of, has_power, is_busy, pull_of, take_bit, reset_chip, dwell_chip, cut_chip, power_chip}
@@ -129,9 +129,10 @@ off-dwell = off_still dwell_chip (λ n m. refl)
 pub off-cut : (mask : ℕ) (c : ChipState) → Off c → cut_chip mask c ≡ c
 off-cut mask = off_still (cut_chip mask) (λ n m. refl)
 
--- power-up of chips without power, of one number, one kind and the same bytes, makes them the same
-pub power_same : (c d : ChipState) → Off c → Off d → c.number ≡ d.number → kind_in c.memory ≡ kind_in d.memory → bytes_of c ≡ bytes_of d → power_chip c ≡ power_chip d
-power_same c d e f n k b =
+-- power-up of chips without power that have scratchpads, of one number, one kind and the same bytes, makes them the same
+pub power_same : (c d : ChipState) → HasScratchpad c.memory → HasScratchpad d.memory → Off c → Off d → c.number ≡ d.number → kind_in c.memory ≡ kind_in d.memory → bytes_of c ≡ bytes_of d
+    → power_chip c ≡ power_chip d
+power_same c d p q e f n k b =
     ap (λ l. power_chip (record { number = c.number; live = l; memory = c.memory })) e
-    ∙ (λ i. record { number = n i; live = on false idle; memory = wake_same c.memory d.memory k b i })
+    ∙ (λ i. record { number = n i; live = on false idle; memory = wake_same c.memory d.memory p q k b i })
     ∙ ap (λ l. power_chip (record { number = d.number; live = l; memory = d.memory })) (sym f)

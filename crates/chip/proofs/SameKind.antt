@@ -1,8 +1,8 @@
--- No event changes a chip's kind.
+-- No event changes a chip's kind, or takes its scratchpad.
 use Rattle.std.proofs.Common.{◌≡◌, ℕ, Bool, refl, ◌∙◌}
 use Rattle.base.proofs.Choice.{pick}
-use Rattle.memory.specs.Memories.{Memory, kind_in}
-use Rattle.memory.proofs.Keeps.{begin_kind, take_kind, wake_kind, dwell_kind, burn_kind}
+use Rattle.memory.specs.Memories.{Memory, kind_in, HasScratchpad}
+use Rattle.memory.proofs.Keeps.{begin_kind, take_kind, wake_kind, dwell_kind, burn_kind, wake_pads, begin_pads, take_pads, dwell_pads, burn_pads}
 use Rattle.chip.specs.ChipStates.{ChipState, has_power, is_busy, take_bit, dwell_chip, cut_chip, power_chip}
 use Rattle.chip.proofs.Sound.{taken_keeps}
 
@@ -21,3 +21,16 @@ module _ (c : ChipState) where
 
   pub kind_power : kind_in (power_chip c).memory ≡ kind_in c.memory
   kind_power = pick (has_power c) OfKind refl (wake_kind c.memory)
+
+  module _ (h : HasScratchpad c.memory) where
+    pub pads_taken : (b : Bool) → HasScratchpad (take_bit b c).memory
+    pads_taken b = taken_keeps HasScratchpad begin_pads take_pads b c h
+
+    pub pads_dwell : HasScratchpad (dwell_chip c).memory
+    pads_dwell = pick (is_busy c) HasScratchpad (dwell_pads c.memory h) h
+
+    pub pads_cut : (mask : ℕ) → HasScratchpad (cut_chip mask c).memory
+    pads_cut mask = pick (is_busy c) HasScratchpad (burn_pads c.memory mask h) h
+
+    pub pads_power : HasScratchpad (power_chip c).memory
+    pads_power = pick (has_power c) HasScratchpad h (wake_pads c.memory h)

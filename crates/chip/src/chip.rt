@@ -5,11 +5,11 @@ ghost use Rattle.chip.specs.ChipStates.{made_chip, has_power, is_busy, pull_of, 
 ghost use Rattle.chip.specs.ChipModel.{model, phase_of};
 
 use crate::rom_phase::{Live, RomPhase};
+use base::RegistrationNumber;
 use base::bit_queue::{Incoming, Outgoing};
-use memory::memory_protocol::Protocol;
-use base::registration_number::RegistrationNumber;
+use memory::Protocol;
 
-// No `impl Model`: the value of a memory holds the rules of its kind, which are functions, and a function has no code.
+// A chip: its registration number, what exists under power only, and the memory behind its number.
 #[derive(Drop)]
 pub struct Chip<P> {
     number: RegistrationNumber,
@@ -19,13 +19,13 @@ pub struct Chip<P> {
 
 impl<P: Protocol> Chip<P> {
     // A chip without power.
-    pub fn new(number: RegistrationNumber, behind: P) -> Chip<P>
-        ensures { model P.memory result ≡ made_chip number.word (P.memory behind) }
+    pub fn new(number: RegistrationNumber, memory: P) -> Chip<P>
+        ensures { model P.memory result ≡ made_chip number.word (P.memory memory) }
     {
         Chip {
             number,
             live: None,
-            memory: behind,
+            memory,
         }
     }
 
@@ -131,8 +131,14 @@ impl<P: Protocol> Chip<P> {
                     self.select(true);
                 }
             }
-            (RomPhase::SearchBit { rest }, _) => self.enter(rc, RomPhase::SearchComplement { rest }),
-            (RomPhase::SearchComplement { rest }, _) => self.enter(rc, RomPhase::SearchDirection { rest }),
+            (RomPhase::SearchBit { rest }, _) => self.enter(
+                rc,
+                RomPhase::SearchComplement { rest },
+            ),
+            (RomPhase::SearchComplement { rest }, _) => self.enter(
+                rc,
+                RomPhase::SearchDirection { rest },
+            ),
             (RomPhase::SearchDirection { rest }, bit) => {
                 if rest.bit() != bit {
                     self.enter(rc, RomPhase::Idle);
@@ -146,7 +152,7 @@ impl<P: Protocol> Chip<P> {
         }
     }
 
-    // On to a phase. RC and the phase are two arguments: `enter(false, RomPhase::Idle)` is plainer than with a `Live` written out.
+    // On to a phase.
     fn enter(&mut self, rc: bool, phase: RomPhase)
         ensures chip { model P.memory self.new ≡ at protocols (model P.memory self.old) (on rc (phase_of phase)) }
         ensures memory { self.new.memory ≡ self.old.memory }

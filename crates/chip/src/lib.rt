@@ -4,3 +4,6 @@
 pub mod chip;
 pub mod rom_command;
 pub mod rom_phase;
+
+pub use chip::Chip;
+pub use rom_command::RomCommand;

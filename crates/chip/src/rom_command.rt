@@ -5,7 +5,6 @@ ghost use Rattle.chip.specs.RomCommands.{byte_of, meant, TakenFor};
 use memory::memory_command::UnknownCommand;
 
 // The commands on a number, each with its byte.
-// Not one type with the commands of the memory phase: the same byte is another command there.
 #[derive(Clone, Copy, Debug, PartialEq, Eq)]
 pub enum RomCommand {
     ReadRom = 0x33,

@@ -7,8 +7,8 @@ use Rattle.base.proofs.Queues.{length_all}
 use Rattle.base.specs.Widths.{value_bits}
 use Rattle.kinds.specs.Kinds.{Rules, Bytes}
 use Rattle.memory.specs.Scratchpads.{Work, on, fresh, await, command, sending, idle}
-use Rattle.memory.specs.Memories.{Memory, padded, protocols, bytes_in, kind_in, power_up_memory}
-use Rattle.memory.proofs.Sound.{SoundMemory}
+use Rattle.memory.specs.Memories.{Memory, padded, protocols, bytes_in, kind_in, power_up_memory, HasScratchpad}
+use Rattle.memory.proofs.Sound.{sound_length, sound_bytes}
 use Rattle.chip.specs.Chips.{Live, off, selected, after_sent}
 use Rattle.chip.specs.Chips.{on as under, idle as resting, command as commanded}
 use Rattle.chip.specs.ChipStates.{ChipState, bytes_of, is_busy, pull_of, take_bit, power_chip, takes}
@@ -177,20 +177,15 @@ everything_tells x y m n e = (bits_from (bits_of 64 x) (bits_of 64 y) number.0, 
     memory : map bit_is (bits_all m) ≡ map bit_is (bits_all n)
     memory = append_cancel_right (map bit_is (bits_all m)) (map bit_is (bits_all n)) [] rest
 
--- bounds and length of a sound memory's bytes
-sound_length : (m : Memory) → SoundMemory m → length (bytes_in m) ≡ (kind_in m).n
-sound_length (padded p) s = s.whole
-
-sound_bytes : (m : Memory) → SoundMemory m → Bytes (bytes_in m)
-sound_bytes (padded p) s = s.small
-
 -- a tag that a power-up found without power
 abbrev woken : ChipState → ChipState
 woken c = record { number = c.number; live = under false resting; memory = power_up_memory c.memory }
 
-woken_told : (x : ℕ) (m : Memory) (k : ℕ) → length (bits_all (bytes_in m)) ≡ k
+woken_told : (x : ℕ) (m : Memory) (k : ℕ) → HasScratchpad m → length (bits_all (bytes_in m)) ≡ k
     → said (probe k) (record { number = x; live = under false resting; memory = power_up_memory m }) ≡ everything x (bytes_in m)
-woken_told x (padded p) k e = told p.rules x p.bytes k e
+woken_told x m k (p, w) =
+    subst (λ n. length (bits_all (bytes_in n)) ≡ k → said (probe k) (record { number = x; live = under false resting; memory = power_up_memory n }) ≡ everything x (bytes_in n)) (sym w)
+    (told p.rules x p.bytes k)
 
 module _ (r : RigState) (c : ChipState) (j : JustUp r c) where
   up_is : r ≡ alone (woken c)
@@ -203,11 +198,11 @@ module _ (r : RigState) (c : ChipState) (j : JustUp r c) where
   up_bits = length_all (bytes_of c) ∙ ap (λ n. 8 * n) (sound_length c.memory up_sound.memory)
 
   up_told : (k : ℕ) → length (bits_all (bytes_of c)) ≡ k → (serve_all (probe k) r).1 ≡ everything c.number (bytes_of c)
-  up_told k e = ap (λ t. (serve_all (probe k) t).1) up_is ∙ woken_told c.number c.memory k e
+  up_told k e = ap (λ t. (serve_all (probe k) t).1) up_is ∙ woken_told c.number c.memory k j.pad e
 
 same_rig : (r s : RigState) (c d : ChipState) → JustUp r c → JustUp s d → kind_in c.memory ≡ kind_in d.memory
     → c.number ≡ d.number → bytes_of c ≡ bytes_of d → r ≡ s
-same_rig r s c d jc jd e n b = jc.so ∙ ap alone (power_same c d (off_powerless c jc.unpowered) (off_powerless d jd.unpowered) n e b) ∙ sym jd.so
+same_rig r s c d jc jd e n b = jc.so ∙ ap alone (power_same c d jc.pad jd.pad (off_powerless c jc.unpowered) (off_powerless d jd.unpowered) n e b) ∙ sym jd.so
 
 pub ends_by_bytes : (r : RigState) (qs : List Request) → EndsByBytes r qs (serve_all qs r)
 ends_by_bytes r qs s c d jc jd e n b = ap (serve_all qs) (same_rig r s c d jc jd e n b)

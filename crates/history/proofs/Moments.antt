@@ -8,6 +8,7 @@ use Rattle.line.specs.Lines.{pull}
 use Rattle.rig.specs.Rigs.{RigState, FuseState, none, after, Pulse, reset_pulse, slot_pulse, dwell_pulse, line_after, pulse_by, pulse, refused, counted}
 use Rattle.wire.specs.Jobs.{Job, ret, step, Ran, line_busy, run, refused_as, report_of}
 use Rattle.wire.specs.Laws.{Along, states}
+use Rattle.wire.proofs.Along.{along_self, along_trans}
 use Rattle.reading.specs.Readings.{reading}
 use Rattle.rom_search.specs.Searches.{passes, room_of, listed}
 use Rattle.order.specs.Orders.{ordering, verdict_of, refuses}
@@ -33,21 +34,9 @@ module _ (P : ChipState → Type 0) (R : ChipState → ChipState → Type 0) whe
   Way r [] t = r ≡ t
   Way r (s ∷ ss) t = Onward r.line s.line × Way s ss t
 
-  pub along_self : ((c : ChipState) → R c c) → (l : List ChipState) → Along R l l
-  along_self self [] = tt
-  along_self self (c ∷ cs) = (self c, along_self self cs)
-
-  pub along_trans : ((c d e : ChipState) → R c d → R d e → R c e) → (l m n : List ChipState) → Along R l m → Along R m n → Along R l n
-  along_trans trans [] [] [] h g = tt
-  along_trans trans [] [] (e ∷ es) h g = g
-  along_trans trans [] (d ∷ ds) n h g = absurd h
-  along_trans trans (c ∷ cs) [] n h g = absurd h
-  along_trans trans (c ∷ cs) (d ∷ ds) [] h g = g
-  along_trans trans (c ∷ cs) (d ∷ ds) (e ∷ es) h g = (trans c d e h.0 g.0, along_trans trans cs ds es h.1 g.1)
-
   module _ (self : (c : ChipState) → R c c) (keeps : (e : Event) (c : ChipState) → P c → P (effect e c) × R c (effect e c)) where
     pub onward_self : (l : List ChipState) → Each l → Onward l l
-    onward_self l e = (e, along_self self l)
+    onward_self l e = (e, along_self R self l)
 
     -- the same event for all chips
     pub onward-effect : (t : Event) (l : List ChipState) → Each l → Onward l (map (effect t) l)
@@ -86,7 +75,7 @@ module _ (P : ChipState → Type 0) (R : ChipState → ChipState → Type 0) whe
     pub way_ends : ((c d e : ChipState) → R c d → R d e → R c e) → (r : RigState) (ss : List RigState) (t : RigState) → Each r.line → Way r ss t → Onward r.line t.line
     way_ends trans r [] t e w = subst (λ q. Onward r.line q.line) w (onward_self r.line e)
     way_ends trans r (s ∷ ss) t e w =
-        let rest = way_ends trans s ss t w.0.0 w.1 in (rest.0, along_trans trans r.line s.line t.line w.0.1 rest.1)
+        let rest = way_ends trans s ss t w.0.0 w.1 in (rest.0, along_trans R trans r.line s.line t.line w.0.1 rest.1)
 
     pub way_each : (r : RigState) (ss : List RigState) (t : RigState) → Each r.line → Way r ss t → Each t.line
     way_each r [] t e w = subst (λ q. Each q.line) w e
@@ -158,4 +147,4 @@ module _ (P : ChipState → Type 0) (R : ChipState → ChipState → Type 0) whe
       onward_all [] r e = onward_self r.line e
       onward_all (q ∷ qs) r e =
           let one = onward-serve q r e in let rest = onward_all qs (serve q r).0 one.0 in
-          (rest.0, along_trans trans r.line (serve q r).0.line (serve_all qs (serve q r).0).0.line one.1 rest.1)
+          (rest.0, along_trans R trans r.line (serve q r).0.line (serve_all qs (serve q r).0).0.line one.1 rest.1)

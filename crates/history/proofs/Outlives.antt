@@ -7,17 +7,18 @@ use Rattle.rig.specs.Rigs.{RigState, made_rig}
 use Rattle.history.specs.Calls.{Request, moments}
 use Rattle.history.specs.Promises.{Preserves, Outlives, Always, ProtectionOutlives}
 use Rattle.history.proofs.Preserved.{Safe, met_safe, effect_preserves, preserves_self, preserves_trans}
-use Rattle.history.proofs.Moments.{Each, Chain, along_self, along_trans, chain_moments}
+use Rattle.wire.proofs.Along.{along_self, along_trans}
+use Rattle.history.proofs.Moments.{Each, Chain, chain_moments}
 
 -- from a moment q, past r, to all that follow it
 outlives : (q r : RigState) (ss : List RigState) → Along Preserves q.line r.line → Chain Safe Preserves r ss → Outlives q ss
 outlives q r [] g c = tt
 outlives q r (s ∷ ss) g c =
-    let on = along_trans Safe Preserves preserves_trans q.line r.line s.line g c.0.1 in (on, outlives q s ss on c.1)
+    let on = along_trans Preserves preserves_trans q.line r.line s.line g c.0.1 in (on, outlives q s ss on c.1)
 
 always : (r : RigState) (ss : List RigState) → Chain Safe Preserves r ss → Always (r ∷ ss)
 always r [] c = (tt, tt)
-always r (s ∷ ss) c = (outlives r r (s ∷ ss) (along_self Safe Preserves preserves_self r.line) c, always s ss c.1)
+always r (s ∷ ss) c = (outlives r r (s ∷ ss) (along_self Preserves preserves_self r.line) c, always s ss c.1)
 
 each_safe : (l : List ChipState) → MetAll l → Each Safe Preserves l
 each_safe [] m = tt

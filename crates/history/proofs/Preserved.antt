@@ -1,14 +1,13 @@
 -- Every event of a sealed tag keeps what is protected then.
 use Rattle.std.proofs.Common.{◌≡◌, ℕ, Bool, true, false, List, [], ◌∷◌, sym, refl, ap, ◌∙◌, subst, true≢false}
 use Rattle.base.proofs.Choice.{pick}
-use Rattle.kinds.specs.Kinds.{whole_row, program}
+use Rattle.kinds.specs.Kinds.{whole_row}
 use Rattle.kinds.specs.SealedTag.{sealed}
 use Rattle.kinds.specs.Protection.{Keeps}
-use Rattle.kinds.proofs.Protection.{Suits, RowSuits, suits_load, keeps_program, keeps_self, keeps_trans, again}
-use Rattle.memory.specs.Scratchpads.{row_of}
-use Rattle.memory.specs.Memories.{Memory, padded, kind_in, bytes_in, select_memory, take_memory, power_up_memory, dwell_memory, cut_memory}
+use Rattle.kinds.proofs.Protection.{Suits, suits_load, keeps_program, keeps_self, keeps_trans, again}
+use Rattle.memory.specs.Memories.{Memory, kind_in, bytes_in, select_memory, take_memory, power_up_memory, cut_memory}
 use Rattle.memory.proofs.Sound.{SoundMemory, begun_sound, taken_sound}
-use Rattle.memory.proofs.Ready.{ReadyPad, begun_ready, woken_ready, taken_ready, burnt_each, dwelt_ready}
+use Rattle.memory.proofs.Ready.{ReadyMemory, begun_fits, woken_fits, taken_fits, dwelt_fits, burnt_fits}
 use Rattle.chip.specs.ChipStates.{ChipState, bytes_of, has_power, is_busy, take_bit, reset_chip, dwell_chip, cut_chip, power_chip}
 use Rattle.chip.specs.Histories.{effects, Met}
 use Rattle.chip.specs.Events.{Event, reset_came, bit_came, dwell_came, power_failed, power_came, effect}
@@ -20,7 +19,7 @@ use Rattle.history.specs.Promises.{Preserves}
 
 -- a sealed tag's scratchpad holds nothing that its protection forbids, once PF is clear
 abbrev SealedReady : Memory → Type 0
-SealedReady (padded p) = p.rules ≡ sealed → ReadyPad Suits p
+SealedReady m = ReadyMemory Suits sealed suits_load m
 
 -- only under power: after a cut the scratchpad need not respect the new protection, and power-up sets PF
 pub record Safe (c : ChipState) : Type 0 where
@@ -32,35 +31,10 @@ abbrev Both : Memory → Type 0
 Both m = SoundMemory m × SealedReady m
 
 both_begun : (m : Memory) → Both m → Both (select_memory m)
-both_begun (padded p) h = (begun_sound (padded p) h.0, λ e. begun_ready Suits p (h.1 e))
+both_begun m h = (begun_sound m h.0, begun_fits Suits sealed suits_load m h.1)
 
 both_taken : (m : Memory) (b : Bool) → Both m → Both (take_memory m b)
-both_taken (padded p) b h = (taken_sound (padded p) b h.0, λ e. taken_ready Suits p b (fits e) h.0 (h.1 e))
-  where
-    fits : p.rules ≡ sealed → (a x : ℕ) → Suits p.bytes a (p.rules.load p.bytes a x)
-    fits e a x = subst (λ K. Suits p.bytes a (K.load p.bytes a x)) (sym e) (suits_load p.bytes a x)
-
-ready_woken : (m : Memory) → SealedReady (power_up_memory m)
-ready_woken (padded p) = λ _. woken_ready Suits p
-
-ready_dwelt : (m : Memory) → SoundMemory m → SealedReady m → SealedReady (dwell_memory m)
-ready_dwelt (padded p) s h = λ e. dwelt_ready Suits p (fit e) (h e)
-  where
-    row : ℕ
-    row = row_of p.work.regs
-
-    pad : List ℕ
-    pad = p.work.regs.pad
-
-    fit : p.rules ≡ sealed → RowSuits (program p.rules.w row pad whole_row p.bytes) row pad
-    fit e =
-        subst (λ w. RowSuits (program w row pad whole_row p.bytes) row pad) (sym (ap (λ K. K.w) e))
-        (again row pad p.bytes (s.whole ∙ ap (λ K. K.n) e) s.work.regs.small)
-
-keeps_burnt : (m : Memory) (mask : ℕ) → SoundMemory m → SealedReady m → kind_in m ≡ sealed → Keeps (bytes_in m) (bytes_in (cut_memory m mask))
-keeps_burnt (padded p) mask s h e =
-    burnt_each Suits (Keeps p.bytes) p mask (h e)
-    (λ fit. keeps_program p.bytes p.rules.w (row_of p.work.regs) p.work.regs.pad mask s.small fit) (keeps_self p.bytes)
+both_taken m b h = (taken_sound m b h.0, taken_fits Suits sealed suits_load m b h.0 h.1)
 
 -- each event leaves a chip safe
 safe_taken : (b : Bool) (c : ChipState) → Safe c → Safe (take_bit b c)
@@ -83,7 +57,7 @@ safe_reset c s = go (has_power c) refl
 safe_dwell : (c : ChipState) → Safe c → Safe (dwell_chip c)
 safe_dwell c s = record {
   sound = sound_dwell c s.sound;
-  ready = λ e. pick (is_busy c) SealedReady (ready_dwelt c.memory s.sound.memory (s.ready e)) (s.ready e);
+  ready = λ e. pick (is_busy c) SealedReady (dwelt_fits Suits sealed suits_load again c.memory s.sound.memory (s.ready e)) (s.ready e);
 }
 
 safe_cut : (mask : ℕ) (c : ChipState) → Safe c → Safe (cut_chip mask c)
@@ -94,7 +68,7 @@ safe_power c s = record { sound = sound_power c s.sound; ready = λ _. go (has_p
   where
     go : (t : Bool) → has_power c ≡ t → SealedReady (elim t as (λ _. Memory) [ true ↦ c.memory | false ↦ power_up_memory c.memory ])
     go true e = s.ready e
-    go false e = ready_woken c.memory
+    go false e = woken_fits Suits sealed suits_load c.memory
 
 -- what each event keeps
 keeps_same : (c d : ChipState) → bytes_of d ≡ bytes_of c → Keeps (bytes_of c) (bytes_of d)
@@ -109,7 +83,7 @@ any_busy-powered c h = go (has_power c) refl
     go false e = absurd (true≢false (sym h ∙ off-busy c (off_powerless c e)))
 
 keeps_programmed : (mask : ℕ) (c : ChipState) → Safe c → is_busy c ≡ true → kind_in c.memory ≡ sealed → Keeps (bytes_of c) (bytes_in (cut_memory c.memory mask))
-keeps_programmed mask c s h e = keeps_burnt c.memory mask s.sound.memory (s.ready (any_busy-powered c h)) e
+keeps_programmed mask c s h e = burnt_fits Suits sealed suits_load Keeps keeps_self keeps_program c.memory mask s.sound.memory (s.ready (any_busy-powered c h)) e
 
 keeps_dwell : (c : ChipState) → Safe c → kind_in c.memory ≡ sealed → Keeps (bytes_of c) (bytes_of (dwell_chip c))
 keeps_dwell c s e = go (is_busy c) refl

@@ -17,9 +17,14 @@ module _ {S Q A : Type 0} (f : Q → S → S × A) where
   abbrev more : S × List A → Q → S × List A
   more s q = ((f q s.0).0, s.1 ++ ((f q s.0).1 ∷ []))
 
+  -- one part, and then another
+  pub run_append : (ps qs : List Q) (s : S)
+      → run_all f (ps ++ qs) s ≡ ((run_all f qs (run_all f ps s).0).0, (run_all f ps s).1 ++ (run_all f qs (run_all f ps s).0).1)
+  run_append [] qs s = refl
+  run_append (p ∷ ps) qs s = ap (λ t. (t.0, (f p s).1 ∷ t.1)) (run_append ps qs (f p s).0)
+
   pub run_push : (qs : List Q) (q : Q) (s : S) → run_all f (qs ++ (q ∷ [])) s ≡ more (run_all f qs s) q
-  run_push [] q s = refl
-  run_push (p ∷ ps) q s = ap (λ t. (t.0, (f p s).1 ∷ t.1)) (run_push ps q (f p s).0)
+  run_push qs q s = run_append qs (q ∷ []) s
 
   -- one turn of a loop over what is asked: what has been answered so far, and one answer more
   pub turn : {C B : Type 0} (ask : C → Q) (say : B → A) (calls : List C) (answers : List B) (i : ℕ) (d : C) (a : B) (r s t : S)

@@ -87,7 +87,7 @@ only_programming r q p = go q p (steps_only_program r (q ∷ []))
     go (order x row new) p h = absurd p
 
 pub power_up_forgets : PowerUpForgets
-power_up_forgets c d e f n k b = power_same c d (off_powerless c e) (off_powerless d f) n k b
+power_up_forgets c d p q e f n k b = power_same c d p q (off_powerless c e) (off_powerless d f) n k b
 
 -- what chips have met
 one_more : (ds : List Event) (e : Event) (c : ChipState) → effects (ds ++ (e ∷ [])) c ≡ effect e (effects ds c)

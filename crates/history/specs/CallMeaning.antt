@@ -1,6 +1,6 @@
 -- What the calls and answers of the code mean.
 use Rattle.std.specs.Prelude.{ℕ, zero, suc, Ok, Err, List, [], ◌∷◌, replicate}
-use Rattle.rig.specs.RigModel.{refusal}
+use Rattle.base.specs.Refusals.{code_of}
 use Rattle.rig.specs.Rigs.{counted}
 use Rattle.wire.specs.Jobs.{answered}
 use Rattle.reading.specs.ReadOutcomes.{read_report, read_count}
@@ -27,9 +27,9 @@ request_of (Order number row new) = order number.word row new
 
 abbrev pub reply_of : Answer → Reply
 reply_of (Presence (Ok present)) = presence_is present
-reply_of (Presence (Err f)) = refused_with (refusal f)
+reply_of (Presence (Err f)) = refused_with (code_of f)
 reply_of (Bit (Ok bit)) = bit_is bit
-reply_of (Bit (Err f)) = refused_with (refusal f)
+reply_of (Bit (Err f)) = refused_with (code_of f)
 reply_of Done = done
 reply_of (Listed outcome places) = listed (search_answer outcome places)
 reply_of (Row (Ok a)) = row_is (answered a.0 a.1)

@@ -2,7 +2,7 @@
 use Rattle.std.specs.Prelude.{◌≡◌, ◌^◌, ◌<◌, false, ◌↔◌, List, [], ◌∷◌, length}
 use Rattle.base.specs.RegistrationNumbers.{IsChecked}
 use Rattle.kinds.specs.Kinds.{Bytes, row_length}
-use Rattle.memory.specs.Memories.{kind_in}
+use Rattle.memory.specs.Memories.{kind_in, HasScratchpad}
 use Rattle.chip.specs.ChipStates.{ChipState, bytes_of, has_power}
 use Rattle.chip.specs.Histories.{Met}
 use Rattle.rig.specs.Rigs.{RigState, made_rig, power_rig}
@@ -28,8 +28,9 @@ GivenAll (q ∷ qs) = Given q × GivenAll qs
 abbrev pub Alike : RigState → RigState → Type 0
 Alike r s = (qs : List Request) → GivenAll qs → (serve_all qs r).1 ≡ (serve_all qs s).1
 
--- a rig whose only chip is c once a power-up found it without power, with no fuse set, after a history of calls
+-- a rig whose only chip is c, with a scratchpad, once a power-up found it without power, with no fuse set, after a history of calls
 pub record JustUp (r : RigState) (c : ChipState) : Type 0 where
+  pub pad : HasScratchpad c.memory
   pub made : ChipState
   pub met : Met made
   pub history : List Request

@@ -1,7 +1,7 @@
 -- Laws of every list of calls on every rig.
 use Rattle.std.specs.Prelude.{◌≡◌, ℕ, ◌%◌, true, false, List, [], ◌∷◌, map, ◌==◌}
 use Rattle.kinds.specs.Kinds.{row_length}
-use Rattle.memory.specs.Memories.{bytes_in, kind_in, cut_memory}
+use Rattle.memory.specs.Memories.{bytes_in, kind_in, cut_memory, HasScratchpad}
 use Rattle.chip.specs.ChipStates.{ChipState, bytes_of, has_power, is_busy, power_chip}
 use Rattle.chip.specs.Histories.{MetAll}
 use Rattle.line.specs.Lines.{presence}
@@ -79,10 +79,10 @@ SilentUnpowered =
     (r : RigState) (qs : List Request) → presence r.line ≡ false → NoPowerUp qs
     → ((serve_all qs r).0.line ≡ r.line) × ((serve_all qs r).1 ≡ map silent qs)
 
--- power-up of a chip without power leaves what its number, its kind and its bytes say, and nothing else
+-- power-up of a chip without power that has a scratchpad leaves what its number, its kind and its bytes say, and nothing else
 abbrev pub PowerUpForgets : Type 0
 PowerUpForgets =
-    (c d : ChipState) → has_power c ≡ false → has_power d ≡ false
+    (c d : ChipState) → HasScratchpad c.memory → HasScratchpad d.memory → has_power c ≡ false → has_power d ≡ false
     → c.number ≡ d.number → kind_in c.memory ≡ kind_in d.memory → bytes_of c ≡ bytes_of d → power_chip c ≡ power_chip d
 
 -- a line whose chips met nothing but a line's calls since they were made stays such a line

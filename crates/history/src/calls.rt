@@ -1,10 +1,9 @@
+use base::{Refusal, RegistrationNumber};
 use kinds::row::ROW;
-use base::registration_number::RegistrationNumber;
-use order::order_fault::OrderFault;
-use reading::read_fault::ReadFault;
-use rig::rig_fault::RigFault;
-use rig::rig::Fuse;
-use rom_search::search_fault::SearchFault;
+use order::OrderFault;
+use reading::ReadFault;
+use rig::Fuse;
+use rom_search::SearchFault;
 use rom_search::job::MOST_PLACES;
 
 // What a rig can be asked; number and row apart, as the jobs take them.
@@ -35,8 +34,9 @@ pub enum Call {
 // What it answers; a search with its list.
 #[derive(Clone, Copy)]
 pub enum Answer {
-    Presence(Result<bool, RigFault>),
-    Bit(Result<bool, RigFault>),
+    // The refusal alone: the count of steps that the rig's fault carries is the rig's own.
+    Presence(Result<bool, Refusal>),
+    Bit(Result<bool, Refusal>),
     Done,
     // As many places as a search fills: fixed memory. How many of them are numbers stands in the outcome.
     Listed {

@@ -3,3 +3,5 @@
 
 pub mod calls;
 pub mod playing;
+
+pub use calls::{Answer, Call};

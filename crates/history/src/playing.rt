@@ -10,15 +10,15 @@ ghost use Rattle.history.specs.Promises.{Always, VerdictTrue, VerdictsTrue, Prom
 ghost use Rattle.history.specs.declared.calls.Call.TheVariants.{Search, Read};
 
 use crate::calls::{Answer, Call};
+use base::RegistrationNumber;
 use kinds::row::ROW;
-use line::line::Line;
-use base::registration_number::RegistrationNumber;
+use line::Line;
 use order::job::order;
 use reading::job::read_row;
-use rig::rig::Rig;
+use rig::Rig;
 use rom_search::job::{MOST_PLACES, search_rom};
 
-// A search with a list of its own: it fills at most 64 places, so no more are lent.
+// A search with a list of its own: it fills at most `MOST_PLACES`, so no more are lent.
 fn make_search<L: Line>(rig: &mut Rig<L>, places: usize) -> Answer
     ensures told { (rig_of L.chips rig.new, reply_of result) ≡ serve (request_of (Search places)) (rig_of L.chips rig.old) }
     ensures form { form_of result ≡ form_asked (Search places) }
@@ -54,8 +54,8 @@ pub fn make_call<L: Line>(rig: &mut Rig<L>, call: Call) -> Answer
     ensures verdict { MetAll (rig_of L.chips rig.old).line → VerdictTrue (request_of call) (rig_of L.chips rig.old) }
 {
     match call {
-        Call::Reset => Answer::Presence(rig.reset()),
-        Call::Slot(bit) => Answer::Bit(rig.slot(bit)),
+        Call::Reset => Answer::Presence(rig.reset().map_err(|fault| fault.refusal())),
+        Call::Slot(bit) => Answer::Bit(rig.slot(bit).map_err(|fault| fault.refusal())),
         Call::Dwell => {
             rig.dwell();
             Answer::Done
@@ -79,7 +79,6 @@ pub fn make_call<L: Line>(rig: &mut Rig<L>, call: Call) -> Answer
 }
 
 // Plays a list of calls, as many as there are places for answers, and says how many; the places are lent, since nothing is allocated.
-// Not one function with the playing of letters: with what is done at each as a closure its clauses would be no plainer.
 pub fn play<L: Line>(rig: &mut Rig<L>, calls: &[Call], answers: &mut [Answer]) -> usize
     ensures count { result ≡ min (length calls.now) (length answers.old) }
     ensures told { (rig_of L.chips rig.new, map reply_of (take result answers.new)) ≡ serve_all (map request_of (take result calls.now)) (rig_of L.chips rig.old) }
@@ -102,7 +101,6 @@ pub fn play<L: Line>(rig: &mut Rig<L>, calls: &[Call], answers: &mut [Answer]) -
     ensures edges { EdgeRuns }
 {
     let count = calls.len().min(answers.len());
-    // By the index: of places lent one by one, as in `iter_mut().zip(..)`, a proof knows no more what they hold.
     for (i, call) in calls[..count].iter().enumerate() {
         answers[i] = make_call(rig, *call);
     }

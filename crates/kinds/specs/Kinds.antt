@@ -10,6 +10,10 @@ pub record Rules : Type 0 where
   pub load : List ℕ → ℕ → ℕ → ℕ  -- bytes, address, sent byte: the byte to be loaded
   pub copy_rule : List ℕ → ℕ → Bool  -- bytes, row: may it be copied to
 
+-- the copy rule's question, for the bytes of a tag: may this row be copied to
+abbrev pub may_copy : Rules → List ℕ → ℕ → Bool
+may_copy K m row = K.copy_rule m row
+
 -- the constants of a kind are the figures of its rules
 pub record Figures (K : Rules) (n w image : ℕ) : Type 0 where
   pub readable : n ≡ K.n
@@ -42,7 +46,7 @@ pub record Lawful (K : Rules) : Type 0 where
   pub made_bytes : (m : List ℕ) → Bytes m → Bytes (K.made m)
   pub load_byte : (m : List ℕ) (a x : ℕ) → x < 256 → Bytes m → K.load m a x < 256
   pub load_past : (m : List ℕ) (a x : ℕ) → K.w ≤ a → K.load m a x ≡ x
-  pub copy_past : (m : List ℕ) (row : ℕ) → K.w ≤ row → K.copy_rule m row ≡ false
+  pub copy_past : (m : List ℕ) (row : ℕ) → K.w ≤ row → may_copy K m row ≡ false
   -- loading a byte that the address already holds answers that byte
   pub load_held : (m : List ℕ) (a : ℕ) → length m ≡ K.n → K.load m a (at m a) ≡ at m a
 

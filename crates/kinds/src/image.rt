@@ -3,7 +3,7 @@ ghost use Rattle.kinds.specs.Kinds.{Bytes};
 
 pub mod holding;
 
-// The programmable bytes of a tag. Ghost fields and no model: the laws of each kind read them.
+// The programmable bytes of a tag. Each is a byte, and there are W of them.
 #[derive(Drop)]
 pub struct Image<const W: usize> {
     bytes: [u8; W],

@@ -2,7 +2,7 @@ ghost use Rattle.std.specs.Prelude.{◌≡◌};
 ghost use Rattle.base.specs.Refusals.{code_of};
 ghost use Rattle.kinds.specs.ImageMaking.{refusal};
 
-use base::refusal::Refusal;
+use base::Refusal;
 
 // Why no tag is made.
 #[derive(Clone, Copy, Debug, PartialEq, Eq)]
@@ -11,7 +11,7 @@ pub enum ImageFault {
 }
 
 impl ImageFault {
-    // A method, as of every fault: `fault.refusal()` says what is asked of it, and `Refusal::from(fault)` would not.
+    // The refusal that it is told as.
     pub fn refusal(&self) -> Refusal
         ensures { code_of result ≡ refusal self.now }
     {

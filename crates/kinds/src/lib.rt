@@ -7,3 +7,8 @@ pub mod kind;
 pub mod practice_plug;
 pub mod row;
 pub mod sealed_tag;
+
+pub use image_fault::ImageFault;
+pub use kind::Kind;
+pub use practice_plug::PracticePlug;
+pub use sealed_tag::SealedTag;

@@ -1,10 +1,10 @@
 ghost use Rattle.kinds.specs.PracticePlugLaws.{plug_figures, plug_lawful};
 ghost use Rattle.kinds.specs.PracticePlug.{plug};
 
-use crate::image_fault::ImageFault;
 use crate::image::Image;
-use crate::row::ROW;
+use crate::image_fault::ImageFault;
 use crate::kind::Kind;
+use crate::row::ROW;
 
 // A tag to practise with: 64 bytes, none of them ever protected.
 #[derive(Drop)]
@@ -12,7 +12,6 @@ pub struct PracticePlug {
     image: Image<64>,
 }
 
-// What every kind says of its image is a line here: a body in the trait would need `Image` of a computed constant.
 impl Kind for PracticePlug {
     const N: usize = 64;
 

@@ -3,10 +3,10 @@ ghost use Rattle.kinds.specs.SealedTag.{sealed, made, locked, control};
 ghost use Rattle.kinds.specs.Locks.{Says};
 ghost use Rattle.kinds.specs.SealedTagLaws.{sealed_figures, sealed_lawful, made_length, bytes_made};
 
-use crate::image_fault::ImageFault;
 use crate::image::Image;
-use crate::row::ROW;
+use crate::image_fault::ImageFault;
 use crate::kind::Kind;
+use crate::row::ROW;
 
 // Where the registers begin, and those that lock others.
 const REGISTERS: u16 = 0x80;
@@ -62,7 +62,6 @@ impl SealedTag {
     }
 }
 
-// What every kind says of its image is a line here: a body in the trait would need `Image` of a computed constant.
 impl Kind for SealedTag {
     const N: usize = 144;
 

@@ -9,14 +9,14 @@ use Rattle.letters.specs.Letters.{requested, script, script_all, count_after, co
 abbrev pub Printed : RigState → ℕ → List ℕ → List ℕ → RigState → Type 0
 Printed s n output input r = ◌≡◌ {A = RigState × List ℕ} (s, take n output) (script_all (take n input) r)
 
-abbrev rom_bit : ℕ → ℕ
-rom_bit x = x
+abbrev same : ℕ → ℕ
+same x = x
 
 pub letter_more : (input output : List ℕ) (i letter x : ℕ) (r s t : RigState) → i < length input → i < length output
     → Printed s i output input r → ◌≡◌ {A = RigState × ℕ} (t, x) (script letter s) → letter ≡ get_or input i 0 → Printed t (i + 1) (set output i x) input r
 letter_more input output i letter x r s t hi ho before one at =
     ap (λ l. (t, l)) (sym (map-id (take (i + 1) (set output i x))))
-    ∙ turn script rom_bit rom_bit input output i 0 x r s t hi ho
+    ∙ turn script same same input output i 0 x r s t hi ho
     (ap (λ l. (s, l)) (map-id (take i output)) ∙ before ∙ ap (λ l. script_all l r) (sym (map-id (take i input))))
     (one ∙ ap (λ k. script k s) at)
     ∙ ap (λ l. script_all l r) (map-id (take (i + 1) input))

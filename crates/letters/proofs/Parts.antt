@@ -1,5 +1,5 @@
 -- Letters that arrive in parts: what is played and written for each part is what is played and written for all.
-use Rattle.std.proofs.Common.{◌≡◌, ℕ, ◌≤◌, List, [], ◌∷◌, ◌++◌, length, take, min, Option, refl, sym, ap, ◌∙◌, subst, arith, append_assoc, length-append}
+use Rattle.std.proofs.Common.{◌≡◌, ℕ, ◌≤◌, List, ◌++◌, length, take, min, Option, sym, ap, ◌∙◌, subst, arith, append_assoc, length-append}
 use Rattle.std.proofs.lemmas.List.{take-append-le, take_all, length-take}
 use Rattle.std.proofs.Math.Seq.{take-append-add}
 use Rattle.std.specs.Io.{StartsWith}
@@ -7,7 +7,7 @@ use Rattle.std.specs.Io.KnownBytes.{Consumes, Appends}
 use Rattle.std.proofs.KnownBytes.{Consumes-trans, Appends-trans}
 use Rattle.std.proofs.Transfers.{starts_with_length}
 use Rattle.rig.specs.Rigs.{RigState}
-use Rattle.history.specs.Calls.{run_all}
+use Rattle.history.proofs.Runs.{run_append}
 use Rattle.letters.specs.Letters.{script, script_all}
 use Rattle.letters.specs.Stream.{newline, answers_to, WritesFront, AnswersFront}
 
@@ -15,12 +15,6 @@ use Rattle.letters.specs.Stream.{newline, answers_to, WritesFront, AnswersFront}
 abbrev pub Answered : Option (List ℕ) → Option (List ℕ) → RigState → RigState → Option (List ℕ) → Option (List ℕ) → Type 0
 Answered left left' r r' held held' =
     (letters : List ℕ) × Consumes left left' letters × (r' ≡ (script_all letters r).0) × Appends held held' (script_all letters r).1
-
--- one part, and then another
-run_append : {S Q A : Type 0} (f : Q → S → S × A) (ps qs : List Q) (s : S)
-    → run_all f (ps ++ qs) s ≡ ((run_all f qs (run_all f ps s).0).0, (run_all f ps s).1 ++ (run_all f qs (run_all f ps s).0).1)
-run_append f [] qs s = refl
-run_append f (p ∷ ps) qs s = ap (λ t. (t.0, (f p s).1 ∷ t.1)) (run_append f ps qs (f p s).0)
 
 answers_append : (ps qs : List ℕ) (r : RigState) → answers_to (ps ++ qs) r ≡ (script_all ps r).1 ++ answers_to qs (script_all ps r).0
 answers_append ps qs r = ap (λ t. t.1 ++ newline) (run_append script ps qs r) ∙ append_assoc (script_all ps r).1 (script_all qs (script_all ps r).0).1 newline

@@ -4,12 +4,12 @@ ghost use Rattle.history.specs.CallMeaning.{reply_of};
 ghost use Rattle.letters.specs.Letters.{requested, printed, script, script_all, count_after, count_all};
 ghost use Rattle.letters.specs.LetterMeaning.{event_of};
 
-use history::calls::{Answer, Call};
 use history::playing::make_call;
-use line::line::Line;
-use rig::rig::Rig;
+use history::{Answer, Call};
+use line::Line;
+use rig::Rig;
 
-// What a letter asks, or nothing. A function: both types are other crates', so no `TryFrom` can stand here.
+// What a letter asks, or nothing.
 pub fn event(letter: char) -> Option<Call>
     ensures { event_of result ≡ requested letter }
 {
@@ -24,7 +24,7 @@ pub fn event(letter: char) -> Option<Call>
     }
 }
 
-// What is printed for an answer; no letter asks for a job, so the answers of jobs have no letter. No `From`, as above.
+// What is printed for an answer; no letter asks for a job, so the answers of jobs have no letter.
 pub fn print_of(answer: Answer) -> u8
     ensures { result ≡ printed (reply_of answer) }
 {
@@ -51,7 +51,6 @@ pub fn play_letter<L: Line>(rig: &mut Rig<L>, letter: char) -> u8
 }
 
 // Plays letters, as many as there are places for what is printed, and says how many; the places are lent, since nothing is allocated.
-// Not one function with the playing of calls: with what is done at each as a closure its clauses would be no plainer.
 pub fn play_letters<L: Line>(rig: &mut Rig<L>, input: &[u8], output: &mut [u8]) -> usize
     ensures count { result ≡ min (length input.now) (length output.old) }
     ensures told { (rig_of L.chips rig.new, take result output.new) ≡ script_all (take result input.now) (rig_of L.chips rig.old) }
@@ -59,7 +58,6 @@ pub fn play_letters<L: Line>(rig: &mut Rig<L>, input: &[u8], output: &mut [u8]) 
     ensures later { drop result output.new ≡ drop result output.old }
 {
     let count = input.len().min(output.len());
-    // By the index: of places lent one by one, as in `iter_mut().zip(..)`, a proof knows no more what they hold.
     for (i, letter) in input[..count].iter().enumerate() {
         output[i] = play_letter(rig, char::from(*letter));
     }

@@ -5,8 +5,8 @@ ghost use Rattle.letters.specs.Letters.{script_all};
 ghost use Rattle.letters.specs.Stream.{answers_to, AnswersAll, AnswersFront, WritesFront};
 
 use crate::script::play_letters;
-use line::line::Line;
-use rig::rig::Rig;
+use line::Line;
+use rig::Rig;
 use std::io;
 use std::io::{ErrorKind, Read, Write};
 

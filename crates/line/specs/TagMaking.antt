@@ -5,11 +5,11 @@ use Rattle.kinds.specs.Kinds.{Rules, Lawful, Bytes}
 use Rattle.kinds.specs.ImageMaking.{refusal}
 use Rattle.kinds.specs.declared.image_fault.ImageFault.{ImageFault}
 use Rattle.memory.specs.Scratchpads.{on, fresh, idle}
-use Rattle.memory.specs.Memories.{Memory, padded}
+use Rattle.memory.specs.Memories.{Memory, padded, HasScratchpad}
 use Rattle.chip.specs.ChipStates.{ChipState, made_chip}
 use Rattle.chip.specs.Histories.{Met}
 use Rattle.chip.specs.ChipModel.{model}
-use Rattle.line.specs.declared.ends.OneTag.{OneTag}
+use Rattle.line.specs.declared.one_tag.OneTag.{OneTag}
 
 -- the chip of a tag just made: its number, its kind, its bytes, no power
 abbrev pub made_tag : Rules → ℕ → List ℕ → ChipState
@@ -29,8 +29,8 @@ abbrev pub answer_of : Result (Unit {0}) ImageFault → Option ℕ
 answer_of (Ok u) = None
 answer_of (Err e) = Some (refusal e)
 
--- a tag made from a registration number, a lawful kind and an image of its length has met nothing yet
+-- a tag made from a registration number, a lawful kind and an image of its length has met nothing yet, and has a scratchpad
 abbrev pub MadeMet : Type 0
 MadeMet =
     (K : Rules) (number : ℕ) (image : List ℕ) → Lawful K → number < 2 ^ 64 → IsChecked number → length image ≡ K.image → Bytes image
-    → Met (made_tag K number image)
+    → Met (made_tag K number image) × HasScratchpad (made_tag K number image).memory

@@ -3,11 +3,10 @@ ghost use Rattle.memory.specs.Memories.{padded};
 ghost use Rattle.memory.specs.ScratchpadModel.{model};
 ghost use Rattle.line.specs.TagMaking.{placing, place_of, answer_of, MadeMet};
 
-use kinds::image_fault::ImageFault;
-use kinds::kind::Kind;
-use crate::ends::OneTag;
-use base::registration_number::RegistrationNumber;
-use memory::scratchpad_memory::ScratchpadMemory;
+use crate::one_tag::OneTag;
+use base::RegistrationNumber;
+use kinds::{ImageFault, Kind};
+use memory::ScratchpadMemory;
 
 // A tag with its number and the bytes of an image, without power, in a lent place.
 // Refusal 2 where the image is not of the kind's length; the place is then unchanged.

@@ -1,3 +1,4 @@
+pub mod Calm
 pub mod Keeps
 pub mod Ready
 pub mod Sent

@@ -4,9 +4,10 @@ use Rattle.std.proofs.lemmas.List.{get_or-set_same, get_or-set_other}
 use Rattle.std.proofs.lemmas.Bool.{cases_eq, leb-true, eqb-true, not-true, not-false, and_parts}
 use Rattle.base.specs.Bits.{value, bits_all, full}
 use Rattle.base.specs.Crc.{crc16, inverted}
-use Rattle.kinds.specs.Kinds.{Rules, at, program, whole_row}
-use Rattle.memory.specs.Scratchpads.{Regs, set_pf, set_aa, set_pad, status, offset_of, row_of, Awaited, command, load_low, load_high, load_data, copy_low, copy_high, copy_status, read_low, read_high, Doing, idle, programming, taking, sending, alternating, Work, on, await, Command, write_scratchpad, read_scratchpad, copy_scratchpad, read_memory, unknown, command_of, run_command, after_data, copy_begins, take_byte, collect_bit, take_doing, is_programming, Padded, programmed_bytes, power_up_pad, select_pad, take_pad, ended, dwell_pad}
-use Rattle.memory.proofs.Sound.{SoundRegs, SoundAwaited, SoundDoing, SoundPad}
+use Rattle.kinds.specs.Kinds.{Rules, may_copy, Bytes, at, program, whole_row}
+use Rattle.memory.specs.Scratchpads.{Regs, set_pf, set_pad, status, offset_of, row_of, Awaited, command, load_low, load_high, load_data, copy_low, copy_high, copy_status, read_low, read_high, Doing, idle, programming, taking, sending, alternating, Work, on, await, Command, write_scratchpad, read_scratchpad, copy_scratchpad, read_memory, unknown, command_of, run_command, after_data, copy_begins, began_copy, stopped_copy, take_byte, collect_bit, take_doing, is_programming, Padded, programmed_bytes, power_up_pad, select_pad, take_pad, ended, dwell_pad}
+use Rattle.memory.specs.Memories.{Memory, padded, bytes_in, kind_in, power_up_memory, select_memory, take_memory, dwell_memory, cut_memory}
+use Rattle.memory.proofs.Sound.{SoundRegs, SoundAwaited, SoundDoing, SoundPad, SoundMemory}
 
 -- F says which byte may stand at which address
 module _ (F : ℕ → ℕ → Type 0) where
@@ -88,7 +89,7 @@ module _ (F : ℕ → ℕ → Type 0) where
 
     copies_clear : (x y z : ℕ) (r : Regs) → copy_begins K m x y z r ≡ true → r.pf ≡ false
     copies_clear x y z r e =
-        not-true r.pf (go (eqb x r.ta1) (eqb y r.ta2) (eqb z (status r)) (not r.pf) (K.copy_rule m (row_of r)) e)
+        not-true r.pf (go (eqb x r.ta1) (eqb y r.ta2) (eqb z (status r)) (not r.pf) (may_copy K m (row_of r)) e)
       where
         go : (a b c d g : Bool) → (a && (b && (c && (d && g)))) ≡ true → d ≡ true
         go a b c d g h = (and_parts d g (and_parts c (d && g) (and_parts b (c && (d && g)) (and_parts a (b && (c && (d && g))) h).1).1).1).0
@@ -105,7 +106,7 @@ module _ (F : ℕ → ℕ → Type 0) where
     got_ready (copy_high x) b r s a f h = record { regs = f; doing = tt }
     got_ready (copy_status x y) b r s a f h = go (copy_begins K m x y b r) refl
       where
-        go : (t : Bool) → copy_begins K m x y b r ≡ t → ReadyWork (elim t as (λ _. Work) [ true ↦ on (set_aa true r) programming | false ↦ on r idle ])
+        go : (t : Bool) → copy_begins K m x y b r ≡ t → ReadyWork (elim t as (λ _. Work) [ true ↦ on (began_copy K m r) programming | false ↦ on (stopped_copy K m x y b r) idle ])
         go true e = record { regs = f; doing = copies_clear x y b r e }
         go false e = record { regs = f; doing = tt }
     got_ready read_low b r s a f h = record { regs = f; doing = tt }
@@ -170,3 +171,33 @@ module _ (F : List ℕ → ℕ → ℕ → Type 0) where
       go (taking w bs) h = record { regs = s.regs; doing = h }
       go (sending bs) h = record { regs = s.regs; doing = tt }
       go (alternating x) h = record { regs = s.regs; doing = tt }
+
+-- so much for a scratchpad; and of memories, where a kind loads only what F allows
+module _ (F : List ℕ → ℕ → ℕ → Type 0) (K : Rules) (loads : (m : List ℕ) (a x : ℕ) → F m a (K.load m a x)) where
+  abbrev pub ReadyMemory : Memory → Type 0
+  ReadyMemory (padded p) = p.rules ≡ K → ReadyPad F p
+
+  pub begun_fits : (m : Memory) → ReadyMemory m → ReadyMemory (select_memory m)
+  begun_fits (padded p) h = λ e. begun_ready F p (h e)
+
+  pub woken_fits : (m : Memory) → ReadyMemory (power_up_memory m)
+  woken_fits (padded p) = λ e. woken_ready F p
+
+  pub taken_fits : (m : Memory) (b : Bool) → SoundMemory m → ReadyMemory m → ReadyMemory (take_memory m b)
+  taken_fits (padded p) b s h = λ e. taken_ready F p b (λ a x. subst (λ (k : Rules). F p.bytes a (k.load p.bytes a x)) (sym e) (loads p.bytes a x)) s (h e)
+
+  -- each byte of the row may stand in it
+  abbrev RowFits : List ℕ → ℕ → List ℕ → Type 0
+  RowFits m row new = (i : ℕ) → i < 8 → F m (row + i) (at new i)
+
+  pub dwelt_fits : ((row : ℕ) (new m : List ℕ) → length m ≡ K.n → Bytes new → RowFits (program K.w row new whole_row m) row new)
+      → (m : Memory) → SoundMemory m → ReadyMemory m → ReadyMemory (dwell_memory m)
+  dwelt_fits again (padded p) s h = λ e. dwelt_ready F p
+      (subst (λ (k : Rules). RowFits (program k.w (row_of p.work.regs) p.work.regs.pad whole_row p.bytes) (row_of p.work.regs) p.work.regs.pad) (sym e)
+      (again (row_of p.work.regs) p.work.regs.pad p.bytes (s.whole ∙ ap (λ (k : Rules). k.n) e) s.work.regs.small)) (h e)
+
+  -- so what programming keeps of the bytes where each may stand, a cut keeps
+  pub burnt_fits : (R : List ℕ → List ℕ → Type 0) → ((m : List ℕ) → R m m) → ((m : List ℕ) (w row : ℕ) (new : List ℕ) (mask : ℕ) → Bytes m → RowFits m row new → R m (program w row new mask m))
+      → (m : Memory) (mask : ℕ) → SoundMemory m → ReadyMemory m → kind_in m ≡ K → R (bytes_in m) (bytes_in (cut_memory m mask))
+  burnt_fits R self programs (padded p) mask s h e =
+      burnt_each F (R p.bytes) p mask (h e) (λ fit. programs p.bytes p.rules.w (row_of p.work.regs) p.work.regs.pad mask s.small fit) (self p.bytes)

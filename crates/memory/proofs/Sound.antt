@@ -7,8 +7,8 @@ use Rattle.base.proofs.Queues.{double}
 use Rattle.base.specs.Crc.{crc16, inverted}
 use Rattle.kinds.specs.Kinds.{Rules, Lawful, Bytes, at, whole_row}
 use Rattle.kinds.proofs.Programming.{program-length, program_bytes, bytes_set}
-use Rattle.memory.specs.Scratchpads.{Regs, fresh, set_pf, set_aa, set_pad, offset_of, row_of, Awaited, command, load_low, load_high, load_data, copy_low, copy_high, copy_status, read_low, read_high, Doing, idle, programming, taking, sending, alternating, Work, on, await, Command, write_scratchpad, read_scratchpad, copy_scratchpad, read_memory, unknown, command_of, run_command, after_data, copy_begins, take_byte, collect_bit, take_doing, is_programming, Padded, programmed_bytes, take_pad, ended}
-use Rattle.memory.specs.Memories.{Memory, padded, FreshMemory, power_up_memory, select_memory, take_memory, dwell_memory, cut_memory}
+use Rattle.memory.specs.Scratchpads.{Regs, fresh, set_pf, set_aa, set_pad, offset_of, row_of, Awaited, command, load_low, load_high, load_data, copy_low, copy_high, copy_status, read_low, read_high, Doing, idle, programming, taking, sending, alternating, Work, on, await, Command, write_scratchpad, read_scratchpad, copy_scratchpad, read_memory, unknown, command_of, run_command, after_data, copy_begins, began_copy, stopped_copy, take_byte, collect_bit, take_doing, is_programming, Padded, programmed_bytes, take_pad, ended}
+use Rattle.memory.specs.Memories.{Memory, padded, FreshMemory, power_up_memory, select_memory, take_memory, dwell_memory, cut_memory, bytes_in, kind_in}
 
 pub record SoundRegs (r : Regs) : Type 0 where
   pub low : r.ta1 < 256
@@ -48,6 +48,13 @@ pub record SoundPad (p : Padded) : Type 0 where
 abbrev pub SoundMemory : Memory → Type 0
 SoundMemory (padded p) = SoundPad p
 
+-- it has as many bytes as its kind says, and each is a byte
+pub sound_length : (m : Memory) → SoundMemory m → length (bytes_in m) ≡ (kind_in m).n
+sound_length (padded p) s = s.whole
+
+pub sound_bytes : (m : Memory) → SoundMemory m → Bytes (bytes_in m)
+sound_bytes (padded p) s = s.small
+
 pub fresh_regs : SoundRegs fresh
 fresh_regs = record { low = omega arith; high = omega arith; ending = omega arith; whole = refl; small = ones 8 }
   where
@@ -61,9 +68,6 @@ flags r p a s = record { low = s.low; high = s.high; ending = s.ending; whole = 
 
 pf_set : (r : Regs) (p : Bool) → SoundRegs r → SoundRegs (set_pf p r)
 pf_set r p s = record { low = s.low; high = s.high; ending = s.ending; whole = s.whole; small = s.small }
-
-aa_set : (r : Regs) (a : Bool) → SoundRegs r → SoundRegs (set_aa a r)
-aa_set r a s = record { low = s.low; high = s.high; ending = s.ending; whole = s.whole; small = s.small }
 
 module _ (K : Rules) (law : Lawful K) (m : List ℕ) (small : Bytes m) where
   obey_sound : (c : Command) (r : Regs) → SoundRegs r → SoundWork (run_command K m c r)
@@ -83,6 +87,12 @@ module _ (K : Rules) (law : Lawful K) (m : List ℕ) (small : Bytes m) where
       go true e = record { regs = pf_set r (r.pf && not (eqb (offset_of r) 0)) s; doing = tt }
       go false e = record { regs = s; doing = (omega arith, grind (arith, nat_tests)) }
 
+  began_sound : (r : Regs) → SoundRegs r → SoundRegs (began_copy K m r)
+  began_sound r s = record { low = s.low; high = s.high; ending = s.ending; whole = s.whole; small = s.small }
+
+  stopped_sound : (x y z : ℕ) (r : Regs) → SoundRegs r → SoundRegs (stopped_copy K m x y z r)
+  stopped_sound x y z r s = record { low = s.low; high = s.high; ending = s.ending; whole = s.whole; small = s.small }
+
   got_sound : (w : Awaited) (b : ℕ) (r : Regs) → b < 256 → SoundAwaited w → SoundRegs r → SoundWork (take_byte K m w b r)
   got_sound command b r h a s = obey_sound (command_of b) r s
   got_sound load_low b r h a s =
@@ -101,7 +111,7 @@ module _ (K : Rules) (law : Lawful K) (m : List ℕ) (small : Bytes m) where
   got_sound copy_low b r h a s = record { regs = s; doing = (omega arith, tt) }
   got_sound (copy_high x) b r h a s = record { regs = s; doing = (omega arith, tt) }
   got_sound (copy_status x y) b r h a s =
-      pick (copy_begins K m x y b r) SoundWork (record { regs = aa_set r true s; doing = tt }) (record { regs = s; doing = tt })
+      pick (copy_begins K m x y b r) SoundWork (record { regs = began_sound r s; doing = tt }) (record { regs = stopped_sound x y b r s; doing = tt })
   got_sound read_low b r h a s = record { regs = s; doing = (omega arith, tt) }
   got_sound (read_high x) b r h a s = record { regs = s; doing = tt }
 

@@ -56,6 +56,10 @@ bytes_in (padded p) = p.bytes
 abbrev pub kind_in : Memory → Rules
 kind_in (padded p) = p.rules
 
+-- a memory of the scratchpad protocol
+abbrev pub HasScratchpad : Memory → Type 0
+HasScratchpad m = (p : Padded) × (m ≡ padded p)
+
 -- a memory just made of a lawful kind from an image
 pub record FreshPad (p : Padded) : Type 0 where
   pub lawful : Lawful p.rules

@@ -2,7 +2,7 @@
 use Rattle.std.specs.Prelude.{ℕ, ◌+◌, ◌-◌, ◌*◌, ◌%◌, Bool, true, false, cond, not, ◌&&◌, List, [], ◌∷◌, ◌++◌, drop, replicate, ◌==◌, nat_le, slice_set}
 use Rattle.base.specs.Bits.{value, bits_all, full, front_bit, rest_bits}
 use Rattle.base.specs.Crc.{crc16, inverted}
-use Rattle.kinds.specs.Kinds.{Rules, row_length, whole_row, program}
+use Rattle.kinds.specs.Kinds.{Rules, may_copy, row_length, whole_row, program}
 
 -- the registers; only the setters below write them
 pub record Regs : Type 0 where
@@ -114,7 +114,15 @@ module _ (K : Rules) (m : List ℕ) where
 
   -- a copy begins: the three bytes equal TA1, TA2 and E/S, PF is clear and the copy rule says yes
   abbrev pub copy_begins : ℕ → ℕ → ℕ → Regs → Bool
-  copy_begins x y z r = x == r.ta1 && (y == r.ta2 && (z == status r && (not r.pf && K.copy_rule m (row_of r))))
+  copy_begins x y z r = x == r.ta1 && (y == r.ta2 && (z == status r && (not r.pf && may_copy K m (row_of r))))
+
+  -- what a copy that begins leaves in the registers
+  abbrev pub began_copy : Regs → Regs
+  began_copy r = set_aa true r
+
+  -- what one that is turned down leaves in them, by its three bytes
+  abbrev pub stopped_copy : ℕ → ℕ → ℕ → Regs → Regs
+  stopped_copy x y z r = r
 
   abbrev pub take_byte : Awaited → ℕ → Regs → Work
   take_byte command b r = run_command (command_of b) r
@@ -123,7 +131,7 @@ module _ (K : Rules) (m : List ℕ) where
   take_byte (load_data k sum) b r = after_data k (crc16 sum (b ∷ [])) (set_pad k (K.load m (row_of r + k) b) r)
   take_byte copy_low b r = on r (await (copy_high b))
   take_byte (copy_high x) b r = on r (await (copy_status x b))
-  take_byte (copy_status x y) b r = elim (copy_begins x y b r) [ true ↦ on (set_aa true r) programming | false ↦ on r idle ]
+  take_byte (copy_status x y) b r = elim (copy_begins x y b r) [ true ↦ on (began_copy r) programming | false ↦ on (stopped_copy x y b r) idle ]
   take_byte read_low b r = on r (await (read_high b))
   take_byte (read_high x) b r = on r (sending (bits_all (drop (x + 256 * b) m)))
 

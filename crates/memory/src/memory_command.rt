@@ -3,7 +3,6 @@ ghost use Rattle.memory.specs.Scratchpads.{command_of};
 ghost use Rattle.memory.specs.MemoryCommands.{byte_of, meant, TakenFor};
 
 // The commands of the memory phase, each with its byte.
-// Not one type with the commands on a number: the same byte is another command there.
 #[derive(Clone, Copy, Debug, PartialEq, Eq)]
 pub enum MemoryCommand {
     WriteScratchpad = 0x0F,

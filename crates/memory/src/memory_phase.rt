@@ -1,5 +1,5 @@
-use base::bit_queue::{Incoming, Outgoing};
 use crate::row_offset::Offset;
+use base::bit_queue::{Incoming, Outgoing};
 
 // What a complete byte will be.
 #[derive(Clone, Copy)]

@@ -56,7 +56,7 @@ impl Registers {
     pub fn reported(&self, next: u8) -> Option<u8>
         ensures { Nexts (report (regs_of self.now)) next result }
     {
-        // By place, each byte from another register: for `nth` of a chain of both parts no proof was found.
+        // Each byte from another register.
         match next {
             0 => Some(self.ta1),
             1 => Some(self.ta2),

@@ -2,7 +2,7 @@ ghost use Rattle.std.specs.Prelude.{◌≡◌, ◌+◌, ◌%◌, ◌<◌, MatchO
 
 use std::marker::Model;
 
-// A place within a row.
+// An offset within a row: 0 to 7.
 #[derive(Clone, Copy)]
 pub struct Offset {
     at: u8,
@@ -21,7 +21,7 @@ impl Model for Offset {
 }
 
 impl Offset {
-    // The place of an address, by its low byte.
+    // The offset of an address in its row, by its low byte.
     pub fn of(low: u8) -> Offset
         ensures { result ≡ low % 8 }
     {
@@ -35,7 +35,7 @@ impl Offset {
         self.at
     }
 
-    // The next place, or none after the last.
+    // The next offset, or none after the last.
     pub fn next(self) -> Option<Offset>
         ensures { MatchOption result (self ≡ 7) (λ o. (o ≡ self + 1) × (self < 7)) }
     {

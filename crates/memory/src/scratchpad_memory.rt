@@ -7,16 +7,15 @@ ghost use Rattle.memory.specs.RegistersModel.{regs_of};
 ghost use Rattle.memory.specs.ScratchpadModel.{model, doing, closing, Awaits, awaited};
 
 use crate::memory_phase::{Await, Phase};
-use base::bit_queue::{Incoming, Outgoing};
-use kinds::row::WHOLE_ROW;
-use kinds::kind::Kind;
 use crate::memory_protocol::Protocol;
-use crate::row_offset::Offset;
 use crate::registers::Registers;
+use crate::row_offset::Offset;
+use base::bit_queue::{Incoming, Outgoing};
 use base::crc::{crc16, crc16_more};
+use kinds::Kind;
+use kinds::row::WHOLE_ROW;
 
 // The memory of a chip: registers and scratchpad beside the kind.
-// No `impl Model`: its value holds the rules of the kind, which are functions, and a function has no code.
 #[derive(Drop)]
 pub struct ScratchpadMemory<K> {
     phase: Phase,

@@ -27,7 +27,7 @@ fails : {A : Type 0} (k : A → Job Ending) {j : Exchange A} {d d' : Counting} {
 fails k {j} {d} {d'} {e} t = told_run k failed t ∙ exits e
   where
     exits : (e : ExchangeFault) → follow k failed d' (Err e) ≡ order_end d' (Err (InExchange e))
-    exits (Rig LineBusy) = refl
+    exits (Rig (LineBusy s)) = refl
     exits (Failed error n s) = refl
 
 goes : {A : Type 0} (k : A → Job Ending) {j : Exchange A} {d d' : Counting} {a : A} → Told j d d' (Ok a) → run d.steps (pulses j k failed) d.rig ≡ run d'.steps (k a) d'.rig
@@ -90,7 +90,7 @@ module _ (x row : ℕ) (new : List ℕ) where
   told_end : (d : Counting) (r : Result (Bool × ℕ) OrderFault) → RowAccepted r → (d.rig, order_verdict r) ≡ with_verdict (order_end d r)
   told_end d (Ok a) b = refl
   told_end d (Err BadRow) b = absurd b
-  told_end d (Err (InExchange (Rig LineBusy))) b = refl
+  told_end d (Err (InExchange (Rig (LineBusy s)))) b = refl
   told_end d (Err (InExchange (Failed error e s))) b = refl
   told_end d (Err (Differs i s)) b = refl
   told_end d (Err (NotHeld i s)) b = refl
@@ -102,15 +102,15 @@ module _ (x row : ℕ) (new : List ℕ) where
       ∙ sym (ap (λ t. call_at x row new d.rig t) (eq-eqb (row % 8) 0 e))
 
   -- a line that is busy refuses it at once
-  pub order_busy : (r : RigState) → row % 8 ≡ 0 → any_busy r.line ≡ true → (r, order_verdict (Err (InExchange (Rig LineBusy)))) ≡ order_call x row new r
+  pub order_busy : (r : RigState) → row % 8 ≡ 0 → any_busy r.line ≡ true → (r, order_verdict (Err (InExchange (Rig (LineBusy 0))))) ≡ order_call x row new r
   order_busy r e b = sym (ap (λ t. call_at x row new r t) (eq-eqb (row % 8) 0 e) ∙ ap with_verdict (first_refused 0 (ordering x row new) r tt b))
 
   -- what the rig has counted then; on a line that was not busy no exchange is refused by the rig
-  pub order_counted : {d d' : Counting} (r : Result (Bool × ℕ) OrderFault) (n : ℕ) → any_busy d.rig.line ≡ false → Ordered x row new d d' r → d'.steps ≡ order_count n r
-  order_counted (Ok a) n b o = sym o.counts
-  order_counted (Err BadRow) n b o = absurd o.taken
-  order_counted {d} (Err (InExchange (Rig LineBusy))) n b o =
-      absurd (subst Ended (sym (ap (λ w. w.got) o.so)) (unrefused_run d.steps (ordering x row new) d.rig.line d.rig.fuse (unrefused x row new d.rig.line b)))
-  order_counted (Err (InExchange (Failed error e s))) n b o = sym o.counts
-  order_counted (Err (Differs i s)) n b o = sym o.counts
-  order_counted (Err (NotHeld i s)) n b o = sym o.counts
+  pub order_counted : {d d' : Counting} (r : Result (Bool × ℕ) OrderFault) (n : ℕ) → row % 8 ≡ 0 → any_busy d.rig.line ≡ false → Ordered x row new d d' r → d'.steps ≡ order_count n r
+  order_counted (Ok a) n al b o = sym o.counts
+  order_counted (Err BadRow) n al b o = absurd o.taken
+  order_counted {d} (Err (InExchange (Rig (LineBusy s)))) n al b o =
+      absurd (subst Ended (sym (ap (λ w. w.got) o.so)) (unrefused_run d.steps (ordering x row new) d.rig.line d.rig.fuse (unrefused x row new al d.rig.line b)))
+  order_counted (Err (InExchange (Failed error e s))) n al b o = sym o.counts
+  order_counted (Err (Differs i s)) n al b o = sym o.counts
+  order_counted (Err (NotHeld i s)) n al b o = sym o.counts

@@ -3,10 +3,10 @@ use Rattle.std.proofs.Common.{◌≡◌, ℕ, zero, suc, ◌+◌, ◌/◌, ◌%�
 use lib.Seq.{take-append_seam, drop-append_seam}
 use Rattle.base.specs.Bits.{bits_all, value, byte_of}
 use Rattle.base.specs.Crc.{crc16, inverted}
-use Rattle.kinds.specs.Kinds.{Rules, Lawful, at, Bytes, blend, program, whole_row}
+use Rattle.kinds.specs.Kinds.{Rules, Lawful, may_copy, at, Bytes, blend, program, whole_row}
 use Rattle.kinds.proofs.Blending.{blend-same}
 use Rattle.kinds.proofs.Programming.{program_bytes, program_each}
-use Rattle.memory.specs.Scratchpads.{Regs, set_aa, status, row_of, Work, Doing, on, idle, programming, sending, alternating, await, command, copy_low, copy_high, copy_status, Awaited, take_byte, copy_begins as accepts, is_programming}
+use Rattle.memory.specs.Scratchpads.{Regs, status, row_of, Work, Doing, on, idle, programming, sending, alternating, await, command, copy_low, copy_high, copy_status, Awaited, take_byte, copy_begins as accepts, began_copy, stopped_copy, is_programming}
 use Rattle.memory.specs.Memories.{padded, kind_in}
 use Rattle.chip.specs.Chips.{Phase, selected}
 use Rattle.chip.specs.Chips.{on as under}
@@ -110,10 +110,10 @@ bytes_mid x [] vs c n e = ap (λ t. elim t as (λ _. List ℕ) [ true ↦ bytes_
 bytes_mid x (u ∷ us) vs c n e =
     ap (λ t. elim t as (λ _. List ℕ) [ true ↦ bytes_of u | false ↦ bytes_with x (us ++ (c ∷ vs)) ]) (ne_eqb u.number x n.0) ∙ bytes_mid x us vs c n.1 e
 
-pub lets_mid : (x row : ℕ) (us vs : List ChipState) (c : ChipState) → NoneHas x us → c.number ≡ x → lets_copy x row (us ++ (c ∷ vs)) ≡ (kind_in c.memory).copy_rule (bytes_of c) row
-lets_mid x row [] vs c n e = ap (λ t. elim t as (λ _. Bool) [ true ↦ (kind_in c.memory).copy_rule (bytes_of c) row | false ↦ lets_copy x row vs ]) (eq-eqb c.number x e)
+pub lets_mid : (x row : ℕ) (us vs : List ChipState) (c : ChipState) → NoneHas x us → c.number ≡ x → lets_copy x row (us ++ (c ∷ vs)) ≡ may_copy (kind_in c.memory) (bytes_of c) row
+lets_mid x row [] vs c n e = ap (λ t. elim t as (λ _. Bool) [ true ↦ may_copy (kind_in c.memory) (bytes_of c) row | false ↦ lets_copy x row vs ]) (eq-eqb c.number x e)
 lets_mid x row (u ∷ us) vs c n e =
-    ap (λ t. elim t as (λ _. Bool) [ true ↦ (kind_in u.memory).copy (bytes_of u) row | false ↦ lets_copy x row (us ++ (c ∷ vs)) ]) (ne_eqb u.number x n.0) ∙ lets_mid x row us vs c n.1 e
+    ap (λ t. elim t as (λ _. Bool) [ true ↦ may_copy (kind_in u.memory) (bytes_of u) row | false ↦ lets_copy x row (us ++ (c ∷ vs)) ]) (ne_eqb u.number x n.0) ∙ lets_mid x row us vs c n.1 e
 
 bytes_reset : (x : ℕ) (l : List ChipState) → bytes_with x (map reset_chip l) ≡ bytes_with x l
 bytes_reset x [] = refl
@@ -210,9 +210,9 @@ module _ (x row : ℕ) (new : List ℕ) (hx : x < 2 ^ 64) (al : row % 8 ≡ 0) (
 
     -- 3. the copy: programmed where the copy rule says yes, and idle elsewhere
     module _ (r : Regs) (t : Took K m row new r) where
-      accepted : accepts K m (row % 256) (row / 256) whole_status r ≡ K.copy_rule m (row_of r)
+      accepted : accepts K m (row % 256) (row / 256) whole_status r ≡ may_copy K m (row_of r)
       accepted =
-          λ i. eqb_low i && (eqb_high i && (eqb_status i && (not (t.clear i) && K.copy_rule m (row_of r))))
+          λ i. eqb_low i && (eqb_high i && (eqb_status i && (not (t.clear i) && may_copy K m (row_of r))))
         where
           eqb_low : eqb (row % 256) r.ta1 ≡ true
           eqb_low = eq-eqb (row % 256) r.ta1 (sym t.low)
@@ -226,10 +226,16 @@ module _ (x row : ℕ) (new : List ℕ) (hx : x < 2 ^ 64) (al : row % 8 ≡ 0) (
       abbrev dwelt : Job Ending
       dwelt = step dwell_pulse (λ _. read_bytes 1 (λ got. finds_and_closes x row new (eqb (get_or got 0 0) programmed_byte)))
 
-      abbrev taken : Bool → Work
-      taken b = elim b [ true ↦ on (set_aa true r) programming | false ↦ on r idle ]
+      abbrev began : Regs
+      began = began_copy K m r
 
-      copy_sent : (d : Doing) → is_programming d ≡ false → Leads (copies_if x row new None) (at1 m (on r d)) dwelt (at1 m (taken (K.copy_rule m (row_of r))))
+      abbrev stopped : Regs
+      stopped = stopped_copy K m (row % 256) (row / 256) whole_status r
+
+      abbrev taken : Bool → Work
+      taken b = elim b [ true ↦ on began programming | false ↦ on stopped idle ]
+
+      copy_sent : (d : Doing) → is_programming d ≡ false → Leads (copies_if x row new None) (at1 m (on r d)) dwelt (at1 m (taken (may_copy K m (row_of r))))
       copy_sent d e =
           leads_then (reopen (send_bytes (0x55 ∷ row % 256 ∷ row / 256 ∷ whole_status ∷ []) dwelt) (failed NoPresence 3) m (on r d) e)
           (leads_then (byte m 0x55 (row % 256 ∷ row / 256 ∷ whole_status ∷ []) dwelt r command (omega arith))
@@ -238,8 +244,8 @@ module _ (x row : ℕ) (new : List ℕ) (hx : x < 2 ^ 64) (al : row % 8 ≡ 0) (
           (subst (λ b. Leads (send_bytes (whole_status ∷ []) dwelt) (at1 m (on r (await (copy_status (row % 256) (row / 256))))) dwelt (at1 m (taken b))) accepted
           (byte m whole_status [] dwelt r (copy_status (row % 256) (row / 256)) (omega arith))))))
 
-      copied : (d : Doing) → is_programming d ≡ false → Ends (copies_if x row new None) (at1 m (on r d)) x row new m (K.copy_rule m row)
-      copied d e = go (K.copy_rule m (row_of r)) refl
+      copied : (d : Doing) → is_programming d ≡ false → Ends (copies_if x row new None) (at1 m (on r d)) x row new m (may_copy K m row)
+      copied d e = go (may_copy K m (row_of r)) refl
         where
           after : List ℕ → Job Ending
           after got = finds_and_closes x row new (eqb (get_or got 0 0) programmed_byte)
@@ -250,8 +256,8 @@ module _ (x row : ℕ) (new : List ℕ) (hx : x < 2 ^ 64) (al : row % 8 ≡ 0) (
           row_is : row_of r ≡ row
           row_is = let a = t.low in let b = t.high in omega (arith, a, b, al)
 
-          lets : K.copy_rule m row ≡ K.copy_rule m (row_of r)
-          lets = ap (K.copy_rule m) (sym row_is)
+          lets : may_copy K m row ≡ may_copy K m (row_of r)
+          lets = ap (may_copy K m) (sym row_is)
 
           -- where the row held what was ordered, the scratchpad has the same, so programming changes nothing
           burnt_same : new ≡ row_in m row → new ≡ row_in programmed_bytes row
@@ -268,17 +274,17 @@ module _ (x row : ℕ) (new : List ℕ) (hx : x < 2 ^ 64) (al : row % 8 ≡ 0) (
                   ap (λ v. blend (byte_of whole_row i) v (at m (row_of r + i))) (ap (λ l. at l i) pad_is ∙ held_at i h ∙ ap (λ k. at m (k + i)) (sym row_is))
                   ∙ blend-same (byte_of whole_row i) (at m (row_of r + i)) (hm (row_of r + i))
 
-          go : (b : Bool) → K.copy_rule m (row_of r) ≡ b → Ends (copies_if x row new None) (at1 m (on r d)) x row new m (K.copy_rule m row)
+          go : (b : Bool) → may_copy K m (row_of r) ≡ b → Ends (copies_if x row new None) (at1 m (on r d)) x row new m (may_copy K m row)
           go true q =
               then_ends (subst (λ b. Leads (copies_if x row new None) (at1 m (on r d)) dwelt (at1 m (taken b))) q (copy_sent d e))
-              (then_ends (dwell_one U V qu qv (λ _. read_bytes 1 after) (talking U V qu qv K x m true (on (set_aa true r) programming)))
-              (then_ends (read-alternating U V qu qv K x programmed_bytes true 8 false (λ bs. after (value bs ∷ [])) (set_aa true r))
-              (concluding m true (K.copy_rule m row) programmed_bytes (on (set_aa true r) (alternating false)) burnt_same (sym (lets ∙ q)) refl (program_bytes K.w (row_of r) r.pad whole_row m hm))))
+              (then_ends (dwell_one U V qu qv (λ _. read_bytes 1 after) (talking U V qu qv K x m true (on began programming)))
+              (then_ends (read-alternating U V qu qv K x programmed_bytes true 8 false (λ bs. after (value bs ∷ [])) began)
+              (concluding m true (may_copy K m row) programmed_bytes (on began (alternating false)) burnt_same (sym (lets ∙ q)) refl (program_bytes K.w (row_of r) r.pad whole_row m hm))))
           go false q =
               then_ends (subst (λ b. Leads (copies_if x row new None) (at1 m (on r d)) dwelt (at1 m (taken b))) q (copy_sent d e))
-              (then_ends (dwell_one U V qu qv (λ _. read_bytes 1 after) (talking U V qu qv K x m true (on r idle)))
-              (then_ends (read-idle U V qu qv K x m true 8 (λ bs. after (value bs ∷ [])) r)
-              (concluding m false (K.copy_rule m row) m (on r idle) (λ u. u) (sym (lets ∙ q)) refl hm)))
+              (then_ends (dwell_one U V qu qv (λ _. read_bytes 1 after) (talking U V qu qv K x m true (on stopped idle)))
+              (then_ends (read-idle U V qu qv K x m true 8 (λ bs. after (value bs ∷ [])) stopped)
+              (concluding m false (may_copy K m row) m (on stopped idle) (λ u. u) (sym (lets ∙ q)) refl hm)))
 
       -- 2. the scratchpad is told, and copied where it is as ordered
       abbrev echo : List ℕ
@@ -333,10 +339,10 @@ module _ (x row : ℕ) (new : List ℕ) (hx : x < 2 ^ 64) (al : row % 8 ≡ 0) (
       there : bytes_with x (at1 m (on r (sending []))) ≡ m
       there = bytes_mid x U V (talking U V qu qv K x m true (on r (sending []))) (opened_none x us nu) refl
 
-      checked : (d : Doing) → is_programming d ≡ false → Ends (checking x row new tt) (at1 m (on r d)) x row new m (K.copy_rule m row)
+      checked : (d : Doing) → is_programming d ≡ false → Ends (checking x row new tt) (at1 m (on r d)) x row new m (may_copy K m row)
       checked d e = then_ends (echoed d e) (go (first_difference new loaded) refl)
         where
-          go : (o : Option ℕ) → first_difference new loaded ≡ o → Ends (copies_if x row new o) (at1 m (on r (sending []))) x row new m (K.copy_rule m row)
+          go : (o : Option ℕ) → first_difference new loaded ≡ o → Ends (copies_if x row new o) (at1 m (on r (sending []))) x row new m (may_copy K m row)
           go None q = copied (sending []) refl
           go (Some i) q = record {
             answer = refusal_at 7 2 i;
@@ -351,7 +357,7 @@ module _ (x row : ℕ) (new : List ℕ) (hx : x < 2 ^ 64) (al : row % 8 ≡ 0) (
     -- 1. the row is sent
     pub order_ends : (work : Work) → length work.regs.pad ≡ 8 → (rc : Bool) (p : Phase)
         → any_busy (us ++ (record { number = x; live = under rc p; memory = padded (record { rules = K; bytes = m; work = work }) } ∷ vs)) ≡ false
-        → Ends (ordering x row new) (us ++ (record { number = x; live = under rc p; memory = padded (record { rules = K; bytes = m; work = work }) } ∷ vs)) x row new m (K.copy_rule m row)
+        → Ends (ordering x row new) (us ++ (record { number = x; live = under rc p; memory = padded (record { rules = K; bytes = m; work = work }) } ∷ vs)) x row new m (may_copy K m row)
     order_ends work eight rc p b =
         then_ends
         (open_one x hx us vs wu wv (send_bytes (0x0F ∷ row % 256 ∷ row / 256 ∷ []) (send_bytes new (read_bytes 2 (next x row new)))) (failed NoPresence 1) rc p (record { rules = K; bytes = m; work = work }) b)

@@ -1,150 +1,41 @@
 -- An order is refused with 3 at its first pulse or never; and one refused with 7 changes no byte.
-use Rattle.std.proofs.Common.{◌≡◌, ℕ, ◌/◌, ◌%◌, Bool, true, false, eqb, List, [], ◌∷◌, ◌++◌, map, get_or, take, drop, Some, None, Option, sym, refl, ap, subst, arith}
+use Rattle.std.proofs.Common.{◌≡◌, ℕ, ◌/◌, ◌%◌, Bool, true, false, eqb, List, [], ◌∷◌, ◌++◌, map, get_or, take, drop, Some, None, Option, sym, refl, ap, ◌∙◌, subst, arith}
+use Rattle.std.proofs.lemmas.Bool.{eqb-true}
+use Rattle.std.proofs.lemmas.Bool.Decides.{nat_tests}
 use Rattle.std.proofs.lemmas.Simd.{map-map}
-use Rattle.base.specs.Bits.{bits_of, bits_all, value}
-use Rattle.base.proofs.Choice.{pick}
+use Rattle.base.specs.Bits.{bits_of, bits_all, odd}
 use Rattle.base.specs.Crc.{inverted}
-use Rattle.memory.specs.Scratchpads.{Work, copy_begins as accepts, working}
-use Rattle.memory.specs.Memories.{Memory, padded}
-use Rattle.chip.specs.Chips.{selected}
-use Rattle.chip.specs.Chips.{on as under}
+use Rattle.memory.proofs.Calm.{copy_bits, copy_heard, copy_dwelt, load_harmless, report_harmless}
 use Rattle.chip.specs.ChipStates.{ChipState, bytes_of, reset_chip, dwell_chip, takes}
-use Rattle.chip.proofs.Select.{Hears, listening, takes-idle, takes-off}
+use Rattle.chip.proofs.Select.{takes-idle, takes-off}
 use Rattle.line.specs.Lines.{any_busy}
-use Rattle.rig.specs.Rigs.{RigState, dwell_pulse}
+use Rattle.rig.specs.Rigs.{dwell_pulse}
 use Rattle.wire.specs.Jobs.{Job, step, Got, done, line_busy, run, send_bits, send_bytes, read_bytes}
 use Rattle.wire.specs.Exchanges.{answer, read as listens, pulses}
 use Rattle.wire.specs.declared.exchange_fault.ExchangeError.{ExchangeError}
 use Rattle.wire.specs.declared.exchange_fault.ExchangeError.TheVariants.{NoPresence, Garbled}
 use Rattle.wire.proofs.Leading.{send-append}
-use Rattle.wire.proofs.Power.{first_refused}
-use Rattle.wire.proofs.Calm.{Leaves, GotAll, leaves, leaves_run, DwellFree, Gets, bytes_unless, Still, still_free, dwell_free, Unrefused, Anyhow, Free, Freed, freed_unrefused, freed_run, Ended, unrefused_run, opening_at, freed_opening, BegunAll, begun_hear, begun_calm, command_hears, command_calm, CalmChip, CalmAll, calm_busy, calm_send, calm_bytes, heard_to}
+use Rattle.wire.proofs.Calm.{Leaves, GotAll, leaves, leaves_run, DwellFree, Gets, bytes_unless, Still, still_free, dwell_free, Unrefused, Anyhow, Free, Freed, freed_unrefused, freed_run, opening_at, freed_opening, BegunAll, begun_hear, begun_calm, command_hears, command_calm, CalmChip, CalmAll, calm_busy, calm_send, calm_bytes, heard_to}
+use Rattle.wire.proofs.AtOnce.{refused_at_once}
 use Rattle.reading.specs.Readings.{reads_memory, closes_by_reset}
 use Rattle.reading.proofs.Quiet.{still_closes, un_close, un_find}
 use Rattle.order.specs.Differences.{first_difference}
 use Rattle.order.specs.Writings.{writes_scratchpad, verifies_scratchpad, copies_scratchpad, whole_status, programmed_byte}
-use Rattle.order.specs.Orders.{Ending, held, refusal, refusal_at, failed, judged, finds_and_closes, copies_if, ordering, Verdict, refuses, refuses_at, verdict_of}
+use Rattle.order.specs.Orders.{Ending, held, refusal, refusal_at, failed, judged, finds_and_closes, copies_if, ordering, refuses, refuses_at, verdict_of}
 use Rattle.order.specs.Laws.{LeavesFree, BusyUnchanged, Uncopied}
 use Rattle.order.proofs.Parts.{judged1, judged2, target, summed_bytes, sent_sum, ends, closing, copying, told, checking, next, call_at}
 
 -- 1. the bits of a copy: every chip hears them, and after the dwell none is programming
-module _ (a b c : ℕ) where
-  abbrev bits : List Bool
-  bits = bits_all (0x55 ∷ a ∷ b ∷ c ∷ [])
-
-  copy_heard : (x : ℕ) (m : Memory) → Hears bits (listening x m)
-  copy_heard x (padded p) = (
-    refl,
-    refl,
-    (
-      refl,
-      refl,
-      (
-        refl,
-        refl,
-        (
-          refl,
-          refl,
-          (
-            refl,
-            refl,
-            (
-              refl,
-              refl,
-              (
-                refl,
-                refl,
-                (
-                  refl,
-                  refl,
-                  (
-                    refl,
-                    refl,
-                    (
-                      refl,
-                      refl,
-                      (
-                        refl,
-                        refl,
-                        (
-                          refl,
-                          refl,
-                          (
-                            refl,
-                            refl,
-                            (
-                              refl,
-                              refl,
-                              (
-                                refl,
-                                refl,
-                                (
-                                  refl,
-                                  refl,
-                                  (
-                                    refl,
-                                    refl,
-                                    (
-                                      refl,
-                                      refl,
-                                      (
-                                        refl,
-                                        refl,
-                                        (
-                                          refl,
-                                          refl,
-                                          (
-                                            refl,
-                                            refl,
-                                            (
-                                              refl,
-                                              refl,
-                                              (
-                                                refl,
-                                                refl,
-                                                (
-                                                  refl,
-                                                  refl,
-                                                  (refl, refl, (refl, refl, (refl, refl, (refl, refl, (refl, refl, (refl, refl, (refl, refl, (refl, refl, tt)))))))),
-                                                ),
-                                              ),
-                                            ),
-                                          ),
-                                        ),
-                                      ),
-                                    ),
-                                  ),
-                                ),
-                              ),
-                            ),
-                          ),
-                        ),
-                      ),
-                    ),
-                  ),
-                ),
-              ),
-            ),
-          ),
-        ),
-      ),
-    ),
-  )
-
-  listening_dwelt : (x : ℕ) (m : Memory) → CalmChip (dwell_chip (takes bits (listening x m)))
-  listening_dwelt x (padded p) =
-      pick (accepts p.rules p.bytes (value (bits_of 8 a)) (value (bits_of 8 b)) (value (bits_of 8 c)) p.work.regs)
-      (λ (w : Work). CalmChip (dwell_chip (record { number = x; live = under true selected; memory = padded (working p w) }))) tt tt
-
-  dwelt_calm : (l : List ChipState) → BegunAll l → CalmAll (map (λ c. dwell_chip (takes bits c)) l)
+module _ (a b c : ℕ) (even : odd a ≡ false) where
+  dwelt_calm : (l : List ChipState) → BegunAll l → CalmAll (map (λ d. dwell_chip (takes (copy_bits a b c) d)) l)
   dwelt_calm =
-      begun_calm (λ c. dwell_chip (takes bits c)) (λ x m. subst (λ d. CalmChip (dwell_chip d)) (sym (takes-off x m bits)) tt) listening_dwelt
-      (λ x m. subst (λ d. CalmChip (dwell_chip d)) (sym (takes-idle x m bits false)) tt)
+      begun_calm (λ d. dwell_chip (takes (copy_bits a b c) d)) (λ x m. subst (λ d. CalmChip (dwell_chip d)) (sym (takes-off x m (copy_bits a b c))) tt) (λ x m. copy_dwelt a b c even m)
+      (λ x m. subst (λ d. CalmChip (dwell_chip d)) (sym (takes-idle x m (copy_bits a b c) false)) tt)
 
 -- 2. no pulse of an order is refused on a line that was not busy, and no chip programs at its end
 module _ (x row : ℕ) (new : List ℕ) where
   abbrev pub sent : List Bool
-  sent = bits (row % 256) (row / 256) whole_status
+  sent = copy_bits (row % 256) (row / 256) whole_status
 
   -- the line once the third exchange has begun, and once the copy was sent
   abbrev pub begun : List ChipState → List ChipState
@@ -153,7 +44,10 @@ module _ (x row : ℕ) (new : List ℕ) where
   abbrev pub copied : List ChipState → List ChipState
   copied l = map (takes sent) (begun l)
 
-  module _ (D : List ChipState → Type 0) (dwelling : (l : List ChipState) → any_busy l ≡ false → D (copied l)) where
+  low_even : row % 8 ≡ 0 → odd (row % 256) ≡ false
+  low_even aligned = grind (arith, nat_tests, aligned)
+
+  module _ (aligned : row % 8 ≡ 0) (D : List ChipState → Type 0) (dwelling : (l : List ChipState) → any_busy l ≡ false → D (copied l)) where
     un_concludes : (programmed : Bool) (l : List ChipState) → CalmAll l → Freed D (finds_and_closes x row new programmed) l
     un_concludes programmed l h =
         un_find D x row 4 (closing new programmed) failed (λ xs. un_close D 5 (ends new programmed xs) failed (λ _ b. b) (λ _ b. b)) (λ _ b. b) l (calm_busy l h)
@@ -165,8 +59,8 @@ module _ (x row : ℕ) (new : List ℕ) where
     un_copies (Some i) l e = e
     un_copies None l e =
         opening_at D x (send_bytes (0x55 ∷ row % 256 ∷ row / 256 ∷ whole_status ∷ []) (step dwell_pulse (λ _. read_bytes 1 said))) (failed NoPresence 3) l e (λ _ b. b)
-        (λ o. heard_to D Free sent (step dwell_pulse (λ _. read_bytes 1 said)) (begun l) (begun_hear sent (copy_heard (row % 256) (row / 256) whole_status) (begun l) o)
-        (dwelling l e, calm_bytes D 1 said (map dwell_chip (copied l)) (subst CalmAll (sym (map-map dwell_chip (takes sent) (begun l))) (dwelt_calm (row % 256) (row / 256) whole_status (begun l) o)) (λ got. un_concludes (eqb (get_or got 0 0) programmed_byte))))
+        (λ o. heard_to D Free sent (step dwell_pulse (λ _. read_bytes 1 said)) (begun l) (begun_hear sent (λ y m. copy_heard (row % 256) (row / 256) whole_status (low_even aligned) m) (begun l) o)
+        (dwelling l e, calm_bytes D 1 said (map dwell_chip (copied l)) (subst CalmAll (sym (map-map dwell_chip (takes sent) (begun l))) (dwelt_calm (row % 256) (row / 256) whole_status (low_even aligned) (begun l) o)) (λ got. un_concludes (eqb (get_or got 0 0) programmed_byte))))
 
     un_told : (got : List ℕ) (l : List ChipState) → CalmAll l → Freed D (told x row new got) l
     un_told got l h = go (target row got) (summed_bytes row got)
@@ -180,7 +74,7 @@ module _ (x row : ℕ) (new : List ℕ) where
     un_checks l e =
         freed_opening D x (send_bytes (0xAA ∷ []) (read_bytes 13 (told x row new))) (failed NoPresence 2) l e (λ _ b. b)
         (λ l' o. heard_to D Free (bits_of 8 0xAA) (read_bytes 13 (told x row new)) l' (command_hears 0xAA l' o)
-        (calm_bytes D 13 (told x row new) (map (takes (bits_of 8 0xAA)) l') (command_calm 0xAA (λ K m r. tt) l' o) un_told))
+        (calm_bytes D 13 (told x row new) (map (takes (bits_of 8 0xAA)) l') (command_calm 0xAA report_harmless l' o) un_told))
 
     un_next : (got : List ℕ) (l : List ChipState) → CalmAll l → Freed D (next x row new got) l
     un_next got l h = go (first_difference got (inverted (sent_sum row new)))
@@ -194,14 +88,14 @@ module _ (x row : ℕ) (new : List ℕ) where
         freed_opening D x (send_bytes (0x0F ∷ row % 256 ∷ row / 256 ∷ []) (send_bytes new (read_bytes 2 (next x row new)))) (failed NoPresence 1) l e (λ _ b. b)
         (λ l' o. subst (λ j. Freed D j l') (sym (send-append (bits_of 8 0x0F) (bits_all (row % 256 ∷ row / 256 ∷ [])) (send_bytes new (read_bytes 2 (next x row new)))))
         (heard_to D Free (bits_of 8 0x0F) (send_bits (bits_all (row % 256 ∷ row / 256 ∷ [])) (send_bytes new (read_bytes 2 (next x row new)))) l' (command_hears 0x0F l' o)
-        (calm_send D (bits_all (row % 256 ∷ row / 256 ∷ [])) (send_bytes new (read_bytes 2 (next x row new))) (map (takes (bits_of 8 0x0F)) l') (command_calm 0x0F (λ K m r. tt) l' o)
+        (calm_send D (bits_all (row % 256 ∷ row / 256 ∷ [])) (send_bytes new (read_bytes 2 (next x row new))) (map (takes (bits_of 8 0x0F)) l') (command_calm 0x0F load_harmless l' o)
         (λ l'' h. calm_send D (bits_all new) (read_bytes 2 (next x row new)) l'' h (λ l''' h'. calm_bytes D 2 (next x row new) l''' h' un_next)))))
 
-  pub freed_anyhow : (l : List ChipState) → any_busy l ≡ false → Freed Anyhow (ordering x row new) l
-  freed_anyhow l e = freed Anyhow (λ _ _. tt) l e
+  pub freed_anyhow : row % 8 ≡ 0 → (l : List ChipState) → any_busy l ≡ false → Freed Anyhow (ordering x row new) l
+  freed_anyhow al l e = freed al Anyhow (λ _ _. tt) l e
 
-  pub unrefused : (l : List ChipState) → any_busy l ≡ false → Unrefused (ordering x row new) l
-  unrefused l e = freed_unrefused Anyhow (ordering x row new) l (freed_anyhow l e)
+  pub unrefused : row % 8 ≡ 0 → (l : List ChipState) → any_busy l ≡ false → Unrefused (ordering x row new) l
+  unrefused al l e = freed_unrefused Anyhow (ordering x row new) l (freed_anyhow al l e)
 
 -- 3. so refusal 3 leaves all unchanged
 abbrev NotThree : Ending → Type 0
@@ -283,11 +177,14 @@ module _ (x row : ℕ) (new : List ℕ) where
 
 -- what the caller is told
 pub busy_unchanged : BusyUnchanged
-busy_unchanged r x row e n new q = go (eqb (row % 8) 0) q
+busy_unchanged r x row e n new q = go (eqb (row % 8) 0) refl q
   where
-    begun : (t : Bool) → any_busy r.line ≡ t → (run 0 (ordering x row new) r).got ≡ line_busy → ((run 0 (ordering x row new) r).rig ≡ r) × (any_busy r.line ≡ true)
-    begun true b g = (ap (λ w. w.rig) (first_refused 0 (ordering x row new) r tt b), b)
-    begun false b g = absurd (subst Ended g (unrefused_run 0 (ordering x row new) r.line r.fuse (unrefused x row new r.line b)))
+    begun : row % 8 ≡ 0 → (run 0 (ordering x row new) r).got ≡ line_busy → (call_at x row new r true).1 ≡ refuses 3 e n
+        → ((run 0 (ordering x row new) r).rig ≡ r) × (any_busy r.line ≡ true) × (e ≡ 0) × (n ≡ 0)
+    begun al g q =
+        let f = refused_at_once (ordering x row new) r tt (unrefused x row new al r.line) g in
+        let u : refuses 3 0 0 ≡ refuses 3 e n = ap (λ w. verdict_of w.got w.steps) (sym f.0) ∙ q in
+        let none : 0 ≡ e = cc in let made : 0 ≡ n = cc in (ap (λ w. w.rig) f.0, f.1, sym none, sym made)
 
     said : (g : Got Ending) (k : ℕ) → GotAll NotThree g → verdict_of g k ≡ refuses 3 e n → g ≡ line_busy
     said (done (held p)) k h q = let z : ◌≡◌ {A = ℕ} 0 1 = cc in absurd (omega arith)
@@ -295,14 +192,17 @@ busy_unchanged r x row e n new q = go (eqb (row % 8) 0) q
     said (done (refusal_at i f j)) k h q = let z : ◌≡◌ {A = ℕ} 0 1 = cc in absurd (omega arith)
     said line_busy k h q = refl
 
-    go : (t : Bool) → (call_at x row new r t).1 ≡ refuses 3 e n → ((call_at x row new r t).0 ≡ r) × (any_busy r.line ≡ true)
-    go true q =
-        begun (any_busy r.line) refl (said (run 0 (ordering x row new) r).got (run 0 (ordering x row new) r).steps (leaves_run NotThree 0 (ordering x row new) r (never_three x row new)) q)
-    go false q = let z : ◌≡◌ {A = ℕ} 3 4 = cc in absurd (omega arith)
+    go : (t : Bool) → eqb (row % 8) 0 ≡ t → (call_at x row new r t).1 ≡ refuses 3 e n → ((call_at x row new r t).0 ≡ r) × (any_busy r.line ≡ true) × (e ≡ 0) × (n ≡ 0)
+    go true a q =
+        begun (eqb-true (row % 8) 0 a) (said (run 0 (ordering x row new) r).got (run 0 (ordering x row new) r).steps (leaves_run NotThree 0 (ordering x row new) r (never_three x row new)) q) q
+    go false a q = let z : ◌≡◌ {A = ℕ} 3 4 = cc in absurd (omega arith)
 
 pub leaves_free : LeavesFree
-leaves_free r x row new b =
-    pick (eqb (row % 8) 0) (λ (s : RigState × Verdict). Free s.0.line) (freed_run Anyhow 0 (ordering x row new) r.line r.fuse (freed_anyhow x row new r.line b)) b
+leaves_free r x row new b = go (eqb (row % 8) 0) refl
+  where
+    go : (t : Bool) → eqb (row % 8) 0 ≡ t → Free (call_at x row new r t).0.line
+    go true a = freed_run Anyhow 0 (ordering x row new) r.line r.fuse (freed_anyhow x row new (eqb-true (row % 8) 0 a) r.line b)
+    go false a = b
 
 pub uncopied : Uncopied
 uncopied r x row e i n new q = go (eqb (row % 8) 0) q

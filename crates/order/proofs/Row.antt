@@ -1,24 +1,22 @@
 -- An order changes the ordered row alone, of tags with the number alone.
-use Rattle.std.proofs.Common.{◌≡◌, ℕ, ◌+◌, ◌/◌, ◌%◌, ◌^◌, ◌<◌, Bool, true, false, not, ◌&&◌, leb, ltb, eqb, List, [], ◌∷◌, ◌++◌, map, sym, refl, ap, ◌∙◌, subst, arith}
-use Rattle.std.proofs.lemmas.Bool.{true≢false, or_parts, and_parts, eqb-true}
-use Rattle.std.proofs.lemmas.Bool.Decides.{nat_tests}
-use Rattle.base.specs.Bits.{bits_of, value}
-use Rattle.base.specs.Widths.{value_bits}
-use Rattle.kinds.specs.Kinds.{at, program, whole_row}
-use Rattle.kinds.proofs.Programming.{program_each}
-use Rattle.memory.specs.Scratchpads.{set_aa, status, row_of, Work, on, idle, programming, copy_begins as accepts, Padded, working}
-use Rattle.memory.specs.Memories.{Memory, padded, bytes_in, cut_memory}
-use Rattle.chip.specs.Chips.{Live, off, selected}
+use Rattle.std.proofs.Common.{◌≡◌, ℕ, ◌%◌, ◌^◌, ◌<◌, Bool, true, false, ◌&&◌, eqb, List, [], ◌∷◌, ◌++◌, map, sym, refl, ap, ◌∙◌, subst}
+use Rattle.std.proofs.lemmas.Bool.{true≢false, or_parts, eqb-true}
+use Rattle.base.specs.Bits.{bits_of}
+use Rattle.kinds.specs.Kinds.{at, whole_row}
+use Rattle.memory.specs.Memories.{Memory, bytes_in, cut_memory}
+use Rattle.memory.proofs.Calm.{copy_aimed}
+use Rattle.chip.specs.Chips.{Live, off}
 use Rattle.chip.specs.Chips.{on as under}
 use Rattle.chip.specs.ChipStates.{ChipState, bytes_of, is_busy, take_bit, reset_chip, dwell_chip, cut_chip, takes, opened_as}
 use Rattle.chip.proofs.Keeps.{number-taken, bytes_taken, bytes_reset, bytes_dwell_idle, bytes_dwell_busy, bytes_cut_idle, bytes_cut_busy}
-use Rattle.chip.proofs.Select.{listening, takes-off, takes-idle, select-takes}
+use Rattle.chip.proofs.Select.{takes-off, takes-idle, select-takes}
 use Rattle.chip.proofs.Sound.{met_sounds}
 use Rattle.line.specs.Lines.{pull, any_busy}
 use Rattle.rig.specs.Rigs.{RigState, Pulse, reset_pulse, slot_pulse, dwell_pulse, line_after}
 use Rattle.rig.proofs.Unpowered.{busy_line}
 use Rattle.wire.specs.Jobs.{Ran, run}
 use Rattle.wire.specs.Laws.{Along}
+use Rattle.wire.proofs.Along.{along_self, along_trans}
 use Rattle.wire.proofs.Leading.{WideAll}
 use Rattle.wire.proofs.Power.{first_refused}
 use Rattle.wire.proofs.Selected.{sound_wide}
@@ -28,12 +26,6 @@ use Rattle.order.specs.Orders.{Ending, ordering}
 use Rattle.order.specs.Laws.{SameBeside, RowOnly, OnlyTheRow}
 use Rattle.order.proofs.Parts.{call_at}
 use Rattle.order.proofs.Quiet.{sent, copied, freed}
-
--- programming changes no byte beside its row
-program_beside : (w row : ℕ) (new : List ℕ) (mask : ℕ) (m : List ℕ) → SameBeside row m (program w row new mask m)
-program_beside w row new mask m a h =
-    program_each (λ b y. (leb row b && ltb b (row + 8)) ≡ false → y ≡ at m b) w row new mask m (λ b _. refl)
-    (λ i l q. let t : (leb row (row + i) && ltb (row + i) (row + 8)) ≡ true = grind (arith, nat_tests) in absurd (true≢false (sym t ∙ q))) a h
 
 takes-number : (bs : List Bool) (c : ChipState) → (takes bs c).number ≡ c.number
 takes-number [] c = refl
@@ -50,20 +42,11 @@ module _ (x row : ℕ) (new : List ℕ) where
   only_same : (c d : ChipState) → d.number ≡ c.number → bytes_of d ≡ bytes_of c → Only c d
   only_same c d n e = (n, λ _. e, λ a _. ap (λ m. at m a) e)
 
-  along_same : (l : List ChipState) → Along Only l l
-  along_same [] = tt
-  along_same (c ∷ cs) = (only_same c c refl refl, along_same cs)
+  only_self : (c : ChipState) → Only c c
+  only_self c = only_same c c refl refl
 
   only_then : (c d e : ChipState) → Only c d → Only d e → Only c e
   only_then c d e f g = (g.0 ∙ f.0, λ n. g.1 (λ q. n (sym f.0 ∙ q)) ∙ f.1 n, λ a h. g.2 a h ∙ f.2 a h)
-
-  along_then : (l k m : List ChipState) → Along Only l k → Along Only k m → Along Only l m
-  along_then [] [] [] f g = tt
-  along_then [] [] (e ∷ es) f g = absurd g
-  along_then [] (d ∷ ds) m f g = absurd f
-  along_then (c ∷ cs) [] m f g = absurd f
-  along_then (c ∷ cs) (d ∷ ds) [] f g = absurd g
-  along_then (c ∷ cs) (d ∷ ds) (e ∷ es) f g = (only_then c d e f.0 g.0, along_then cs ds es f.1 g.1)
 
   along_map : (f : ChipState → ChipState) → ((c : ChipState) → Only c (f c)) → (l : List ChipState) → Along Only l (map f l)
   along_map f h [] = tt
@@ -117,36 +100,6 @@ module _ (x row : ℕ) (new : List ℕ) where
   ready_aimed dwell_pulse l h w = h w
 
   module _ (hx : x < 2 ^ 64) (al : row % 8 ≡ 0) (hr : row < 65536) where
-    -- a tag that listens programs by a copy only if its address is the row's
-    copy_aimed : (n : ℕ) (p : Padded) → n ≡ x → Aimed (takes (sent x row new) (listening n (padded p)))
-    copy_aimed n p e = go (accepts p.rules p.bytes low high (value (bits_of 8 whole_status)) p.work.regs) refl
-      where
-        low : ℕ
-        low = value (bits_of 8 (row % 256))
-
-        high : ℕ
-        high = value (bits_of 8 (row / 256))
-
-        go : (t : Bool) → accepts p.rules p.bytes low high (value (bits_of 8 whole_status)) p.work.regs ≡ t
-            → Aimed (record { number = n; live = under true selected; memory = padded (working p (elim t as (λ _. Work) [ true ↦ on (set_aa true p.work.regs) programming | false ↦ on p.work.regs idle ])) })
-        go false q = λ b. absurd (true≢false (sym b))
-        go true q = λ _. (e, λ mask. subst (λ k. SameBeside row p.bytes (program p.rules.w k p.work.regs.pad mask p.bytes)) (sym its_row) (program_beside p.rules.w row p.work.regs.pad mask p.bytes))
-          where
-            rest : Bool
-            rest = eqb (value (bits_of 8 whole_status)) (status p.work.regs) && (not p.work.regs.pf && p.rules.copy_rule p.bytes (row_of p.work.regs))
-
-            both : (eqb low p.work.regs.ta1 ≡ true) × ((eqb high p.work.regs.ta2 && rest) ≡ true)
-            both = and_parts (eqb low p.work.regs.ta1) (eqb high p.work.regs.ta2 && rest) q
-
-            is_low : row % 256 ≡ p.work.regs.ta1
-            is_low = sym (value_bits 8 (row % 256) (omega arith)) ∙ eqb-true low p.work.regs.ta1 both.0
-
-            is_high : row / 256 ≡ p.work.regs.ta2
-            is_high = sym (value_bits 8 (row / 256) (omega (arith, hr))) ∙ eqb-true high p.work.regs.ta2 (and_parts (eqb high p.work.regs.ta2) rest both.1).0
-
-            its_row : row_of (set_aa true p.work.regs) ≡ row
-            its_row = let a = is_low in let b = is_high in omega (arith, a, b, al)
-
     -- of the chips that hear a copy, no other programs
     chip_aimed : (c : ChipState) → is_busy c ≡ false → c.number < 2 ^ 64 → Aimed (takes (sent x row new) (takes (bits_of 8 0x55 ++ bits_of 64 x) (reset_chip c)))
     chip_aimed c e h = subst (λ d. Aimed (takes (sent x row new) d)) (sym (select-takes x c h hx e)) (go c.number c.memory c.live (eqb c.number x) refl)
@@ -154,7 +107,7 @@ module _ (x row : ℕ) (new : List ℕ) where
         go : (n : ℕ) (m : Memory) (l : Live) (t : Bool) → eqb n x ≡ t → Aimed (takes (sent x row new) (opened_as l t (record { number = n; live = l; memory = m })))
         go n m off t q = subst Aimed (sym (takes-off n m (sent x row new))) (λ b. absurd (true≢false (sym b)))
         go n m (under rc p) false q = subst Aimed (sym (takes-idle n m (sent x row new) false)) (λ b. absurd (true≢false (sym b)))
-        go n (padded p) (under rc ph) true q = copy_aimed n p (eqb-true n x q)
+        go n m (under rc ph) true q = λ b. (eqb-true n x q, copy_aimed row whole_status al hr m b)
 
     copied_aimed : (l : List ChipState) → any_busy l ≡ false → AtDwell (copied x row new l)
     copied_aimed [] b w = tt
@@ -167,9 +120,9 @@ module _ (x row : ℕ) (new : List ℕ) where
     went_only : (r : RigState) → WideAll r.line → any_busy r.line ≡ false → Along Only r.line (run 0 (ordering x row new) r).rig.line
     went_only r w b =
         (meets_run AtDwell Free (λ l. WideAll l × Along Only r.line l) busy_line
-        (λ p l h s. (wide_act p l s.0, along_then r.line l (line_after p l) s.1 (act_only p l (ready_aimed p l h s.0))))
-        (λ p m l h s. (wide_map (cut_chip m) (λ c. refl) l s.0, along_then r.line l (map (cut_chip m) l) s.1 (cut_only m l (ready_aimed p l h s.0))))
-        0 (ordering x row new) r.line r.fuse (freed x row new AtDwell copied_aimed r.line b) (w, along_same r.line)).1.1
+        (λ p l h s. (wide_act p l s.0, along_trans Only only_then r.line l (line_after p l) s.1 (act_only p l (ready_aimed p l h s.0))))
+        (λ p m l h s. (wide_map (cut_chip m) (λ c. refl) l s.0, along_trans Only only_then r.line l (map (cut_chip m) l) s.1 (cut_only m l (ready_aimed p l h s.0))))
+        0 (ordering x row new) r.line r.fuse (freed x row new al AtDwell copied_aimed r.line b) (w, along_self Only only_self r.line)).1.1
 
 pub only_the_row : OnlyTheRow
 only_the_row r x row new met hx hr = go (eqb (row % 8) 0) refl
@@ -178,9 +131,9 @@ only_the_row r x row new met hx hr = go (eqb (row % 8) 0) refl
     wide = sound_wide r.line (met_sounds r.line met)
 
     begun : row % 8 ≡ 0 → (b : Bool) → any_busy r.line ≡ b → Along (RowOnly x row) r.line (run 0 (ordering x row new) r).rig.line
-    begun al true b = subst (λ (w : Ran Ending). Along (RowOnly x row) r.line w.rig.line) (sym (first_refused 0 (ordering x row new) r tt b)) (along_same x row new r.line)
+    begun al true b = subst (λ (w : Ran Ending). Along (RowOnly x row) r.line w.rig.line) (sym (first_refused 0 (ordering x row new) r tt b)) (along_self (RowOnly x row) (only_self x row new) r.line)
     begun al false b = went_only x row new hx al hr r wide b
 
     go : (t : Bool) → eqb (row % 8) 0 ≡ t → Along (RowOnly x row) r.line (call_at x row new r t).0.line
     go true q = begun (eqb-true (row % 8) 0 q) (any_busy r.line) refl
-    go false q = along_same x row new r.line
+    go false q = along_self (RowOnly x row) (only_self x row new) r.line

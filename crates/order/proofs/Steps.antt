@@ -1,5 +1,5 @@
 -- How many steps an order takes.
-use Rattle.std.proofs.Common.{◌≡◌, ℕ, ◌+◌, ◌/◌, ◌%◌, ◌≤◌, Bool, true, false, cond, eqb, ◌⊎◌, List, [], ◌∷◌, length, get_or, take, drop, Some, None, Option, sym, refl, ◌∙◌, subst, inl, inr, arith}
+use Rattle.std.proofs.Common.{◌≡◌, ℕ, ◌+◌, ◌/◌, ◌%◌, ◌≤◌, Bool, true, false, cond, eqb, ◌⊎◌, List, [], ◌∷◌, length, get_or, take, drop, Some, None, Option, sym, refl, ap, ◌∙◌, subst, inl, inr, arith}
 use Rattle.base.specs.Bits.{bits_all}
 use Rattle.base.proofs.Queues.{length_all}
 use Rattle.base.specs.Crc.{inverted}
@@ -10,8 +10,9 @@ use Rattle.wire.specs.declared.exchange_fault.ExchangeError.TheVariants.{NoPrese
 use Rattle.wire.proofs.Counts.{LeavesAt, GotAt, leaves_at, at-step, at-send, at_bytes, at-opening}
 use Rattle.order.specs.Differences.{first_difference}
 use Rattle.order.specs.Writings.{whole_status, programmed_byte}
-use Rattle.order.specs.Orders.{Ending, held, refusal, refusal_at, failed, judged, finds_and_closes, copies_if, ordering, holds, verdict_of}
+use Rattle.order.specs.Orders.{Ending, held, refusal, refusal_at, failed, judged, finds_and_closes, copies_if, ordering, holds, refuses, verdict_of}
 use Rattle.order.specs.Laws.{steps_of, OrderSteps}
+use Rattle.order.proofs.Quiet.{busy_unchanged}
 use Rattle.order.proofs.Parts.{judged1, judged2, target, summed_bytes, sent_sum, ends, closing, copying, told, checking, next, call_at}
 
 abbrev pub Takes : ℕ → Ending → Type 0
@@ -86,12 +87,12 @@ said_steps (done (refusal j e)) k n p h q = let z : ◌≡◌ {A = ℕ} 0 1 = cc
 said_steps (done (refusal_at j e i)) k n p h q = let z : ◌≡◌ {A = ℕ} 0 1 = cc in absurd (omega arith)
 said_steps line_busy k n p h q = let z : ◌≡◌ {A = ℕ} 0 1 = cc in absurd (omega arith)
 
-bounded : (g : Got Ending) (k : ℕ) → GotAt Takes k g → steps_of (verdict_of g k) ≤ 638
-bounded (done (held b)) k h = omega (arith, h)
-bounded (done (refusal j e)) k h = h
-bounded (done (refusal_at j e i)) k (inl h) = let q = h.2 in omega (arith, q)
-bounded (done (refusal_at j e i)) k (inr h) = let q = h.2 in omega (arith, q)
-bounded line_busy k h = omega arith
+bounded : (g : Got Ending) (k : ℕ) → (g ≡ line_busy → k ≡ 0) → GotAt Takes k g → steps_of (verdict_of g k) ≤ 638
+bounded (done (held b)) k z h = omega (arith, h)
+bounded (done (refusal j e)) k z h = h
+bounded (done (refusal_at j e i)) k z (inl h) = let q = h.2 in omega (arith, q)
+bounded (done (refusal_at j e i)) k z (inr h) = let q = h.2 in omega (arith, q)
+bounded line_busy k z h = let s = z refl in omega (arith, s)
 
 module _ (r : RigState) (x row : ℕ) (new : List ℕ) (len : length new ≡ 8) where
   pub counts : GotAt Takes (run 0 (ordering x row new) r).steps (run 0 (ordering x row new) r).got
@@ -101,9 +102,11 @@ module _ (r : RigState) (x row : ℕ) (new : List ℕ) (len : length new ≡ 8) 
   steps_held n p true q = said_steps (run 0 (ordering x row new) r).got (run 0 (ordering x row new) r).steps n p counts q
   steps_held n p false q = let z : ◌≡◌ {A = ℕ} 0 1 = cc in absurd (omega arith)
 
-  steps_bounded : (t : Bool) → steps_of (call_at x row new r t).1 ≤ 638
-  steps_bounded true = bounded (run 0 (ordering x row new) r).got (run 0 (ordering x row new) r).steps counts
-  steps_bounded false = omega arith
+  steps_bounded : (t : Bool) → ((n : ℕ) → (call_at x row new r t).1 ≡ refuses 3 0 n → n ≡ 0) → steps_of (call_at x row new r t).1 ≤ 638
+  steps_bounded true early =
+      bounded (run 0 (ordering x row new) r).got (run 0 (ordering x row new) r).steps
+      (λ q. early (run 0 (ordering x row new) r).steps (ap (λ g. verdict_of g (run 0 (ordering x row new) r).steps) q)) counts
+  steps_bounded false early = omega arith
 
 pub order_steps : OrderSteps
-order_steps r x row new len = (λ n p q. steps_held r x row new len n p (eqb (row % 8) 0) q, steps_bounded r x row new len (eqb (row % 8) 0))
+order_steps r x row new len = (λ n p q. steps_held r x row new len n p (eqb (row % 8) 0) q, steps_bounded r x row new len (eqb (row % 8) 0) (λ n q. (busy_unchanged r x row 0 n new q).3))

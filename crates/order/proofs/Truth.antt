@@ -1,31 +1,29 @@
 -- The verdict is the truth.
 use Rattle.std.proofs.Common.{◌≡◌, ℕ, ◌%◌, ◌^◌, ◌<◌, Bool, true, false, eqb, ◌↔◌, List, ◌∷◌, ◌++◌, length, sym, refl, ap, ◌∙◌, subst, inl, inr, eq-eqb}
-use Rattle.std.proofs.lemmas.Bool.{true≢false, eqb-true}
-use Rattle.kinds.specs.Kinds.{Bytes}
-use Rattle.memory.specs.Memories.{Memory, padded, bytes_in, kind_in}
+use Rattle.std.proofs.lemmas.Bool.{eqb-true}
+use Rattle.kinds.specs.Kinds.{may_copy, Bytes}
+use Rattle.memory.specs.Memories.{kind_in}
 use Rattle.memory.proofs.Sound.{SoundMemory}
-use Rattle.chip.specs.Chips.{Live, off, powered}
-use Rattle.chip.specs.Chips.{on as under}
-use Rattle.chip.specs.ChipStates.{ChipState, bytes_of}
+use Rattle.chip.specs.ChipStates.{bytes_of}
 use Rattle.chip.proofs.Sound.{SoundAll, met_sounds}
 use Rattle.line.specs.Lines.{any_busy}
 use Rattle.rig.specs.Rigs.{RigState}
 use Rattle.wire.specs.Jobs.{Got, done, line_busy, Ran, run, good}
-use Rattle.wire.specs.Laws.{powered_in, NoneHas, Single, row_in}
-use Rattle.wire.proofs.Leading.{free, WideAll}
+use Rattle.wire.specs.Laws.{powered_in, Single, row_in}
+use Rattle.wire.proofs.Leading.{free}
 use Rattle.wire.proofs.After.{one_run}
 use Rattle.wire.proofs.Calm.{Anyhow, freed_run}
 use Rattle.wire.proofs.Counts.{GotAt}
 use Rattle.wire.proofs.Power.{GotGood, first_refused, kept_free, good_free, good_kept}
-use Rattle.wire.proofs.Selected.{sound_wide, sound_mid, powered_one}
+use Rattle.wire.proofs.Selected.{sound_wide, sound_mid, powered_one, padding}
 use Rattle.order.specs.Orders.{Ending, held, refusal, refusal_at, ordering, verdict_of, order_call}
-use Rattle.order.specs.Laws.{Held, OrderBegan, Kept, bytes_with, lets_copy, Outcome, Tells, OrderTells}
+use Rattle.order.specs.Laws.{Held, OrderBegan, Kept, bytes_with, lets_copy, Outcome, Tells, OrderTells, BeganLeavesFree}
 use Rattle.order.proofs.Parts.{call_at}
 use Rattle.order.proofs.Present.{IsHeld, Placed, Ends, bytes_mid, lets_mid, order_ends}
 use Rattle.reading.specs.Laws.{finding}
 use Rattle.reading.proofs.Found.{told_row}
 use Rattle.order.proofs.Absent.{order_wary, absent}
-use Rattle.order.proofs.Quiet.{freed_anyhow}
+use Rattle.order.proofs.Quiet.{freed_anyhow, leaves_free}
 use Rattle.order.proofs.Steps.{Takes, counts}
 
 -- a busy line refuses the first pulse
@@ -72,14 +70,6 @@ outcome_of new lets found n g a q p t = subst (λ h. Outcome new lets found (ver
     go (refusal_at k e i) p (inr t) = (p.0, inr (t.0, t.1, t.2, p.1 t.0))
 
 module _ (x row : ℕ) (new : List ℕ) (hx : x < 2 ^ 64) (al : row % 8 ≡ 0) (hr : row < 65536) (len : length new ≡ 8) (small : Bytes new) where
-  -- with power and no fuse
-  present : (us vs : List ChipState) → NoneHas x us → NoneHas x vs → WideAll us → WideAll vs → (n : ℕ) (l : Live) (m : Memory) → n ≡ x → powered l ≡ true → SoundMemory m
-      → any_busy (us ++ (record { number = n; live = l; memory = m } ∷ vs)) ≡ false → Ends (ordering x row new) (us ++ (record { number = n; live = l; memory = m } ∷ vs)) x row new (bytes_in m) ((kind_in m).copy (bytes_in m) row)
-  present us vs nu nv wu wv n off m e p s b = absurd (true≢false (sym p))
-  present us vs nu nv wu wv n (under rc ph) (padded q) e p s b =
-      subst (λ k. any_busy (us ++ (record { number = k; live = under rc ph; memory = padded q } ∷ vs)) ≡ false → Ends (ordering x row new) (us ++ (record { number = k; live = under rc ph; memory = padded q } ∷ vs)) x row new q.bytes (q.rules.copy_rule q.bytes row)) (sym e)
-      (order_ends x row new hx al hr len small us vs nu nv wu wv q.rules s.lawful q.bytes s.whole s.small q.work s.work.regs.whole rc ph) b
-
   module _ (r : RigState) (s : SoundAll r.line) (b : any_busy r.line ≡ false) (o : Single x r.line) where
     abbrev went : Ran Ending
     went = run 0 (ordering x row new) r
@@ -90,11 +80,13 @@ module _ (x row : ℕ) (new : List ℕ) (hx : x < 2 ^ 64) (al : row % 8 ≡ 0) (
     ends : powered_in x r.line ≡ true → Ends (ordering x row new) r.line x row new (bytes_with x r.line) (lets_copy x row r.line)
     ends u =
         let parts = sound_mid o.before o.behind o.tag (subst SoundAll o.so s) in
+        let t = padding x o.tag o.is (powered_one x o.before o.behind o.tag o.none_before o.none_behind (ap (powered_in x) (sym o.so) ∙ u)) o.pad in
         subst (λ l. Ends (ordering x row new) l x row new (bytes_with x l) (lets_copy x row l)) (sym o.so)
         (subst (λ m. Ends (ordering x row new) (o.before ++ (o.tag ∷ o.behind)) x row new m (lets_copy x row (o.before ++ (o.tag ∷ o.behind)))) (sym (bytes_mid x o.before o.behind o.tag o.none_before o.is))
         (subst (Ends (ordering x row new) (o.before ++ (o.tag ∷ o.behind)) x row new (bytes_of o.tag)) (sym (lets_mid x row o.before o.behind o.tag o.none_before o.is))
-        (present o.before o.behind o.none_before o.none_behind (sound_wide o.before parts.0) (sound_wide o.behind parts.2) o.tag.number o.tag.live o.tag.memory o.is
-        (powered_one x o.before o.behind o.tag o.none_before o.none_behind (ap (powered_in x) (sym o.so) ∙ u)) parts.1.memory (ap any_busy (sym o.so) ∙ b))))
+        (subst (λ c. SoundMemory c.memory → any_busy (o.before ++ (c ∷ o.behind)) ≡ false → Ends (ordering x row new) (o.before ++ (c ∷ o.behind)) x row new (bytes_of c) (may_copy (kind_in c.memory) (bytes_of c) row)) (sym t.so)
+        (λ m q. order_ends x row new hx al hr len small o.before o.behind o.none_before o.none_behind (sound_wide o.before parts.0) (sound_wide o.behind parts.2) t.pad.rules m.lawful t.pad.bytes m.whole m.small t.pad.work m.work.regs.whole t.rc t.phase q)
+        parts.1.memory (ap any_busy (sym o.so) ∙ b))))
 
     -- where the tag kept power, the run is the one without a fuse
     as-free : Kept x row new r → (e : Ends (ordering x row new) r.line x row new (bytes_with x r.line) (lets_copy x row r.line))
@@ -130,7 +122,7 @@ module _ (x row : ℕ) (new : List ℕ) (hx : x < 2 ^ 64) (al : row % 8 ≡ 0) (
     given =
         let left = one_run x 0 (ordering x row new) r (s, o) in
         let t = left.1 in
-        told_row 4 x row hx hr went.rig.line left.0 (freed_run Anyhow 0 (ordering x row new) r.line r.fuse (freed_anyhow x row new r.line b)) t
+        told_row 4 x row hx hr went.rig.line left.0 (freed_run Anyhow 0 (ordering x row new) r.line r.fuse (freed_anyhow x row new al r.line b)) t
         ∙ ap (λ m. done (good (row_in m row))) (sym (ap (bytes_with x) t.so ∙ bytes_mid x t.before t.behind t.tag t.none_before t.is))
 
     lacked : (Kept x row new r → ⊥) → GotGood IsHeld went.got → ⊥
@@ -164,3 +156,6 @@ pub order-tells : OrderTells
 order-tells r x row new met hx hr len small b o =
     let e = began_row x row new r b in
     tells x row new hx (eqb-true (row % 8) 0 e) hr len small r (met_sounds r.line met) (began_free x row new r e b) o
+
+pub began_leaves_free : BeganLeavesFree
+began_leaves_free r x row new b = leaves_free r x row new (began_free x row new r (began_row x row new r b) b)

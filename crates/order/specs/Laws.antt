@@ -1,6 +1,6 @@
 -- Laws of every order on every rig.
 use Rattle.std.specs.Prelude.{◌≡◌, ℕ, ◌^◌, ◌<◌, ◌≤◌, Bool, true, false, ◌≢◌, ◌⊎◌, ◌↔◌, List, [], ◌∷◌, map, length, Some, ◌==◌}
-use Rattle.kinds.specs.Kinds.{row_length, at, Bytes, in_row}
+use Rattle.kinds.specs.Kinds.{may_copy, row_length, at, Bytes, in_row}
 use Rattle.memory.specs.Memories.{kind_in}
 use Rattle.chip.specs.ChipStates.{ChipState, bytes_of}
 use Rattle.chip.specs.Histories.{MetAll}
@@ -44,7 +44,7 @@ found_then x row new r = row_in (bytes_with x (order_call x row new r).0.line) r
 -- whether the tag with the number lets the row be copied to, by the rules of its kind
 abbrev pub lets_copy : ℕ → ℕ → List ChipState → Bool
 lets_copy x row [] = false
-lets_copy x row (c ∷ cs) = elim (c.number == x) [ true ↦ (kind_in c.memory).copy_rule (bytes_of c) row | false ↦ lets_copy x row cs ]
+lets_copy x row (c ∷ cs) = elim (c.number == x) [ true ↦ may_copy (kind_in c.memory) (bytes_of c) row | false ↦ lets_copy x row cs ]
 
 -- what an order answers whose tag kept power, by the ordered row, whether the tag lets it be copied to, and the row then found:
 -- held in 638 steps, programmed where the tag lets it; refused with 7 in its second exchange, after 362 steps;
@@ -78,11 +78,16 @@ OrderTells =
 -- refusal 3 comes before any step, to a line that is busy, with all unchanged, whatever its chips have met
 abbrev pub BusyUnchanged : Type 0
 BusyUnchanged =
-    (r : RigState) (x row e n : ℕ) (new : List ℕ) → (order_call x row new r).1 ≡ refuses 3 e n → ((order_call x row new r).0 ≡ r) × (any_busy r.line ≡ true)
+    (r : RigState) (x row e n : ℕ) (new : List ℕ) → (order_call x row new r).1 ≡ refuses 3 e n
+    → ((order_call x row new r).0 ≡ r) × (any_busy r.line ≡ true) × (e ≡ 0) × (n ≡ 0)
 
 -- an order leaves no tag programming, whichever step is cut, on a line of any chips that was not busy
 abbrev pub LeavesFree : Type 0
 LeavesFree = (r : RigState) (x row : ℕ) (new : List ℕ) → any_busy r.line ≡ false → any_busy (order_call x row new r).0.line ≡ false
+
+-- so one that began leaves the line free
+abbrev pub BeganLeavesFree : Type 0
+BeganLeavesFree = (r : RigState) (x row : ℕ) (new : List ℕ) → OrderBegan (order_call x row new r).1 → any_busy (order_call x row new r).0.line ≡ false
 
 -- a held order takes 638 steps, and no order takes more, so its count stays below the limit of 32 bits
 abbrev pub steps_of : Verdict → ℕ

@@ -1,10 +1,10 @@
 -- What the answers of the code mean.
 use Rattle.std.specs.Prelude.{◌≡◌, ℕ, Bool, List, Some, None, Ok, Err, Option, Result}
 use Rattle.base.specs.Refusals.{code_of}
-use Rattle.rig.specs.RigModel.{Counting, refusal as rig_refusal}
+use Rattle.rig.specs.RigModel.{Counting, steps_made, refusal as rig_refusal}
 use Rattle.rig.specs.declared.rig_fault.RigFault.TheVariants.{LineBusy}
 use Rattle.wire.specs.Jobs.{Ran, done, line_busy, run}
-use Rattle.wire.specs.Exchanges.{pulses, error_code, Tallies}
+use Rattle.wire.specs.Exchanges.{pulses, error_code, fault_count, Tallies}
 use Rattle.wire.specs.declared.exchange_fault.ExchangeFault.TheVariants.{Rig, Failed}
 use Rattle.wire.specs.declared.exchange_fault.Refused.{Refused}
 use Rattle.order.specs.Writings.{copies_scratchpad}
@@ -16,7 +16,7 @@ use Rattle.order.specs.declared.order_fault.OrderFault.TheVariants.{BadRow, Exch
 abbrev pub order_verdict : Result (Bool × ℕ) OrderFault → Verdict
 order_verdict (Ok a) = holds a.0 a.1
 order_verdict (Err BadRow) = refuses 4 0 0
-order_verdict (Err (InExchange (Rig f))) = refuses (rig_refusal f) 0 0
+order_verdict (Err (InExchange (Rig f))) = refuses (rig_refusal f) 0 (steps_made f)
 order_verdict (Err (InExchange (Failed error e s))) = refuses (error_code error) e s
 order_verdict (Err (Differs i s)) = refuses_at 7 2 i s
 order_verdict (Err (NotHeld i s)) = refuses_at 8 5 i s
@@ -30,7 +30,7 @@ refused_by r (Some i) = refuses_at (code_of r.refusal) r.exchange i r.steps
 abbrev pub order_end : Counting → Result (Bool × ℕ) OrderFault → Ran Ending
 order_end d (Ok a) = record { rig = d.rig; steps = a.1; got = done (held a.0) }
 order_end d (Err BadRow) = record { rig = d.rig; steps = 0; got = done (refusal 4 0) }
-order_end d (Err (InExchange (Rig LineBusy))) = record { rig = d.rig; steps = d.steps; got = line_busy }
+order_end d (Err (InExchange (Rig (LineBusy s)))) = record { rig = d.rig; steps = s; got = line_busy }
 order_end d (Err (InExchange (Failed error e s))) = record { rig = d.rig; steps = s; got = done (refusal (error_code error) e) }
 order_end d (Err (Differs i s)) = record { rig = d.rig; steps = s; got = done (refusal_at 7 2 i) }
 order_end d (Err (NotHeld i s)) = record { rig = d.rig; steps = s; got = done (refusal_at 8 5 i) }
@@ -60,8 +60,7 @@ Counts d (Err (NotHeld i s)) = s ≡ d.steps
 abbrev pub order_count : ℕ → Result (Bool × ℕ) OrderFault → ℕ
 order_count n (Ok a) = a.1
 order_count n (Err BadRow) = n
-order_count n (Err (InExchange (Rig f))) = n
-order_count n (Err (InExchange (Failed error e s))) = s
+order_count n (Err (InExchange f)) = fault_count n f
 order_count n (Err (Differs i s)) = s
 order_count n (Err (NotHeld i s)) = s
 

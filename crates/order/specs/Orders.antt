@@ -38,7 +38,7 @@ abbrev pub ordering : ℕ → ℕ → List ℕ → Job Ending
 ordering x row new =
     pulses (writes_scratchpad x row new) (λ _. pulses (verifies_scratchpad x row) (λ loaded. copies_if x row new (first_difference new loaded)) failed) failed
 
--- what the caller of an order is told, with the steps made; exchange 0 and 0 steps before any step
+-- what the caller of an order is told, with the steps made; exchange 0 where the rig refused, and before any step
 pub data Verdict : Type 0 where
   holds : Bool → ℕ → Verdict  -- programmed or not, steps
   refuses : ℕ → ℕ → ℕ → Verdict  -- number, exchange, steps
@@ -48,7 +48,7 @@ abbrev pub verdict_of : Got Ending → ℕ → Verdict
 verdict_of (done (held programmed)) n = holds programmed n
 verdict_of (done (refusal k e)) n = refuses k e n
 verdict_of (done (refusal_at k e i)) n = refuses_at k e i n
-verdict_of line_busy n = refuses 3 0 0
+verdict_of line_busy n = refuses 3 0 n
 
 abbrev pub with_verdict : Ran Ending → RigState × Verdict
 with_verdict w = (w.rig, verdict_of w.got w.steps)

@@ -4,15 +4,14 @@ ghost use Rattle.wire.specs.Exchanges.{Told};
 ghost use Rattle.order.specs.Differences.{first_difference};
 ghost use Rattle.order.specs.Writings.{Expected, writes_scratchpad, verifies_scratchpad, copies_scratchpad};
 
-use kinds::row::ROW;
-use line::line::Line;
-use memory::memory_command::MemoryCommand;
-use rig::rig::Rig;
 use base::crc::{crc16_after, inverted};
+use kinds::row::ROW;
+use line::Line;
+use memory::MemoryCommand;
+use rig::Rig;
 use wire::bytes::{read_bytes, send_byte, send_bytes};
-use wire::exchange_fault::{ExchangeFault, ExchangeError};
 use wire::opening::reset_and_match_rom;
-use wire::target::Target;
+use wire::{ExchangeError, ExchangeFault, Target};
 
 // The status of a scratchpad that took a whole row.
 const WHOLE: u8 = 0x07;
@@ -37,7 +36,11 @@ fn expect<L: Line>(
 }
 
 // 0Fh, the address and the data; the sum that is read must be right.
-pub fn write_scratchpad<L: Line>(rig: &mut Rig<L>, target: Target, new: &[u8; ROW]) -> Result<(), ExchangeFault>
+pub fn write_scratchpad<L: Line>(
+    rig: &mut Rig<L>,
+    target: Target,
+    new: &[u8; ROW],
+) -> Result<(), ExchangeFault>
     ensures { Told (writes_scratchpad target.number.word target.row new.now) (counting L.chips rig.old) (counting L.chips rig.new) result }
 {
     let head = target.addressed(MemoryCommand::WriteScratchpad);
@@ -51,7 +54,10 @@ pub fn write_scratchpad<L: Line>(rig: &mut Rig<L>, target: Target, new: &[u8; RO
 }
 
 // AAh; address, status and sum must be right. The scratchpad's bytes.
-pub fn verify_scratchpad<L: Line>(rig: &mut Rig<L>, target: Target) -> Result<[u8; ROW], ExchangeFault>
+pub fn verify_scratchpad<L: Line>(
+    rig: &mut Rig<L>,
+    target: Target,
+) -> Result<[u8; ROW], ExchangeFault>
     ensures { Told (verifies_scratchpad target.number.word target.row) (counting L.chips rig.old) (counting L.chips rig.new) result }
 {
     let [low, high] = target.address();

@@ -4,19 +4,19 @@ ghost use Rattle.rig.specs.RigModel.{counting, rig_of};
 ghost use Rattle.wire.specs.Laws.{Single};
 ghost use Rattle.order.specs.Differences.{first_difference};
 ghost use Rattle.order.specs.Orders.{order_call};
-ghost use Rattle.order.specs.Laws.{OrderBegan, Tells, OrderTells, BusyUnchanged, LeavesFree, OnlyTheRow, Uncopied, OrderSteps};
+ghost use Rattle.order.specs.Laws.{OrderBegan, Tells, OrderTells, BusyUnchanged, LeavesFree, BeganLeavesFree, OnlyTheRow, Uncopied, OrderSteps};
 ghost use Rattle.order.specs.OrderOutcomes.{judgement, Concluded, Ordered, order_verdict, order_count};
 
-use crate::order_fault::OrderFault;
-use kinds::row::ROW;
-use line::line::Line;
-use base::registration_number::RegistrationNumber;
-use reading::exchanges::{closing_reset, read_memory};
-use rig::rig::Rig;
-use wire::opening::begin_job;
-use wire::target::Target;
 use crate::differences::first_difference;
-use crate::exchanges::{verify_scratchpad, copy_scratchpad, write_scratchpad};
+use crate::exchanges::{copy_scratchpad, verify_scratchpad, write_scratchpad};
+use crate::order_fault::OrderFault;
+use base::RegistrationNumber;
+use kinds::row::ROW;
+use line::Line;
+use reading::exchanges::{closing_reset, read_memory};
+use rig::Rig;
+use wire::Target;
+use wire::opening::begin_job;
 
 // Exchanges 3 to 5, once the scratchpad holds what was ordered.
 fn conclude<L: Line>(
@@ -79,6 +79,7 @@ pub fn order<L: Line>(
     ensures tells { OrderTells }
     ensures unchanged { BusyUnchanged }
     ensures free { LeavesFree }
+    ensures began { BeganLeavesFree }
     ensures only { OnlyTheRow }
     ensures uncopied { Uncopied }
     ensures steps { OrderSteps }

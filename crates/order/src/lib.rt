@@ -5,3 +5,5 @@ pub mod differences;
 pub mod exchanges;
 pub mod job;
 pub mod order_fault;
+
+pub use order_fault::OrderFault;

@@ -2,8 +2,8 @@ ghost use Rattle.std.specs.Prelude.{◌≡◌, Err};
 ghost use Rattle.order.specs.OrderOutcomes.{order_verdict, refused_by};
 ghost use Rattle.order.specs.declared.order_fault.OrderFault.TheVariants.{Exchange};
 
-use base::refusal::Refusal;
-use wire::exchange_fault::{ExchangeFault, Refused};
+use base::Refusal;
+use wire::{ExchangeFault, Refused};
 
 // Why an order was refused or failed.
 #[derive(Clone, Copy, Debug, PartialEq, Eq)]
@@ -16,7 +16,6 @@ pub enum OrderFault {
     NotHeld { index: usize, steps: u32 },
 }
 
-// No trait shared with the other jobs' faults: an order tells an index too.
 impl OrderFault {
     // The refusal, the exchange and the steps made; and the first index that differs, of 7 and 8.
     pub fn refused(&self) -> (Refused, Option<usize>)

@@ -23,7 +23,7 @@ fails : {A : Type 0} (k : A → Job (Said (List ℕ))) {j : Exchange A} {d d' : 
 fails k {j} {d} {d'} {e} t = told_run k failed t ∙ exits e
   where
     exits : (e : ExchangeFault) → follow k failed d' (Err e) ≡ read_end d' (Err (InExchange e))
-    exits (Rig LineBusy) = refl
+    exits (Rig (LineBusy s)) = refl
     exits (Failed error n s) = refl
 
 goes : {A : Type 0} (k : A → Job (Said (List ℕ))) {j : Exchange A} {d d' : Counting} {a : A} → Told j d d' (Ok a) → run d.steps (pulses j k failed) d.rig ≡ run d'.steps (k a) d'.rig
@@ -67,15 +67,15 @@ module _ (x row : ℕ) where
 
   pub read_err : {d d' : Counting} (f : ReadFault) (l : List ℕ) → row % 8 ≡ 0 → d.steps ≡ 0 → Read x row d d' (Err f) → (d'.rig, read_report (Err f) l) ≡ read_call x row d.rig
   read_err BadRow l e z o = absurd o.begun
-  read_err (InExchange (Rig LineBusy)) l e z o = called e z o
+  read_err (InExchange (Rig (LineBusy s))) l e z o = called e z o
   read_err (InExchange (Failed error n s)) l e z o = called e z o
 
   -- a line that is busy refuses it at once
-  pub read_busy : (r : RigState) (l : List ℕ) → row % 8 ≡ 0 → any_busy r.line ≡ true → (r, read_report (Err (InExchange (Rig LineBusy))) l) ≡ read_call x row r
+  pub read_busy : (r : RigState) (l : List ℕ) → row % 8 ≡ 0 → any_busy r.line ≡ true → (r, read_report (Err (InExchange (Rig (LineBusy 0)))) l) ≡ read_call x row r
   read_busy r l e b = sym (ap (λ t. call_at x row r t) (eq-eqb (row % 8) 0 e) ∙ ap reported (first_refused 0 (reading x row) r tt b))
 
   -- what the rig has counted then; on a line that was not busy no exchange is refused by the rig
   pub count_err : {d d' : Counting} (f : ReadFault) (n : ℕ) → any_busy d.rig.line ≡ false → Read x row d d' (Err f) → d'.steps ≡ read_count n (Err f)
   count_err BadRow n b o = absurd o.begun
-  count_err {d} (InExchange (Rig LineBusy)) n b o = absurd (subst Ended (sym (ap (λ w. w.got) o.so)) (unrefused_run d.steps (reading x row) d.rig.line d.rig.fuse (unrefused x row d.rig.line b)))
+  count_err {d} (InExchange (Rig (LineBusy s))) n b o = absurd (subst Ended (sym (ap (λ w. w.got) o.so)) (unrefused_run d.steps (reading x row) d.rig.line d.rig.fuse (unrefused x row d.rig.line b)))
   count_err (InExchange (Failed error e s)) n b o = sym o.counts

@@ -1,15 +1,15 @@
 -- The exchanges that a reading shares with an order: the row that F0h gives, and the closing reset.
 use Rattle.std.proofs.Common.{◌≡◌, ℕ, zero, suc, ◌+◌, ◌*◌, ◌/◌, ◌%◌, ◌^◌, ◌<◌, Bool, true, false, cond, ◌||◌, List, [], ◌∷◌, ◌++◌, map, drop, sym, refl, ap, ◌∙◌, subst, ap₂, arith}
-use Rattle.std.proofs.lemmas.Bool.{true≢false}
 use Rattle.base.specs.Bits.{bits_all}
 use Rattle.kinds.specs.Kinds.{Bytes}
 use Rattle.memory.specs.Scratchpads.{on, sending, command, read_low, read_high, Padded}
-use Rattle.memory.specs.Memories.{Memory, padded, bytes_in}
+use Rattle.memory.specs.Memories.{padded}
 use Rattle.memory.proofs.Sound.{SoundMemory}
-use Rattle.chip.specs.Chips.{Live, off, Phase, selected, powered}
+use Rattle.chip.specs.Chips.{Live, off, Phase, selected}
 use Rattle.chip.specs.Chips.{on as under}
 use Rattle.chip.specs.ChipStates.{ChipState, bytes_of, has_power, is_busy, reset_chip, power_chip, opened_by}
 use Rattle.chip.proofs.Keeps.{bytes_power}
+use Rattle.chip.proofs.SameKind.{pads_power}
 use Rattle.chip.proofs.Sound.{SoundAll, sound_power, met_sounds}
 use Rattle.line.specs.Lines.{presence, any_busy}
 use Rattle.rig.specs.Rigs.{reset_pulse}
@@ -22,7 +22,7 @@ use Rattle.wire.proofs.Leading.{free, Leads, leads_then, leads_step, WideAll}
 use Rattle.wire.proofs.Alone.{QuietAll, put, talking, one_byte}
 use Rattle.wire.proofs.After.{single_map, sound_map}
 use Rattle.wire.proofs.One.{others_quiet, open_one, hear_memory}
-use Rattle.wire.proofs.Selected.{sound_wide, sound_mid}
+use Rattle.wire.proofs.Selected.{sound_wide, sound_mid, padding}
 use Rattle.reading.specs.Readings.{reads_memory, closes_by_reset, failed}
 use Rattle.reading.specs.Laws.{finding, RowIsRead}
 
@@ -91,24 +91,19 @@ module _ (e x row : ℕ) (hx : x < 2 ^ 64) (hr : row < 65536) where
   asking = pulses (reads_memory e x row) (λ found. ret (good found)) failed
 
   -- a powered tag tells its row
-  told_by : (us vs : List ChipState) → NoneHas x us → NoneHas x vs → WideAll us → WideAll vs → (n : ℕ) (l : Live) (m : Memory) → n ≡ x → powered l ≡ true → SoundMemory m
-      → any_busy (us ++ (record { number = n; live = l; memory = m } ∷ vs)) ≡ false
-      → (run 0 asking (free (us ++ (record { number = n; live = l; memory = m } ∷ vs)))).got ≡ done (good (row_in (bytes_in m) row))
-  told_by us vs nu nv wu wv n off m i p s b = absurd (true≢false (sym p))
-  told_by us vs nu nv wu wv n (under rc ph) (padded q) i p s b =
-      subst (λ k. any_busy (us ++ (record { number = k; live = under rc ph; memory = padded q } ∷ vs)) ≡ false → (run 0 asking (free (us ++ (record { number = k; live = under rc ph; memory = padded q } ∷ vs)))).got ≡ done (good (row_in q.bytes row)))
-      (sym i) (λ b'. ap (λ w. w.got) ((found_row x row hx hr us vs nu nv wu wv e (λ found. ret (good found)) failed rc ph q s.small b').so 0).1) b
-
   told_powered : (l : List ChipState) → SoundAll l → any_busy l ≡ false → (o : Single x l) → has_power o.tag ≡ true → (run 0 asking (free l)).got ≡ done (good (row_in (bytes_of o.tag) row))
   told_powered l s b o p =
       let parts = sound_mid o.before o.behind o.tag (subst SoundAll o.so s) in
+      let t = padding x o.tag o.is p o.pad in
       ap (λ k. (run 0 asking (free k)).got) o.so
-      ∙ told_by o.before o.behind o.none_before o.none_behind (sound_wide o.before parts.0) (sound_wide o.behind parts.2) o.tag.number o.tag.live o.tag.memory o.is p parts.1.memory (ap any_busy (sym o.so) ∙ b)
+      ∙ subst (λ c. SoundMemory c.memory → any_busy (o.before ++ (c ∷ o.behind)) ≡ false → (run 0 asking (free (o.before ++ (c ∷ o.behind)))).got ≡ done (good (row_in (bytes_of c) row))) (sym t.so)
+      (λ m q. ap (λ w. w.got) ((found_row x row hx hr o.before o.behind o.none_before o.none_behind (sound_wide o.before parts.0) (sound_wide o.behind parts.2) e (λ found. ret (good found)) failed t.rc t.phase t.pad m.small q).so 0).1)
+      parts.1.memory (ap any_busy (sym o.so) ∙ b)
 
   -- and so does any, powered up first
   pub told_row : (l : List ChipState) → SoundAll l → any_busy l ≡ false → (o : Single x l) → (finding e x row l).got ≡ done (good (row_in (bytes_of o.tag) row))
   told_row l s b o =
-      told_powered (map power_chip l) (sound_map power_chip sound_power l s) (busy_power l ∙ b) (single_map x power_chip (λ c. refl) l o) (has_powered o.tag)
+      told_powered (map power_chip l) (sound_map power_chip sound_power l s) (busy_power l ∙ b) (single_map x power_chip (λ c. refl) pads_power l o) (has_powered o.tag)
       ∙ ap (λ m. done (good (row_in m row))) (bytes_power o.tag)
 
 pub row_is_read : RowIsRead

@@ -1,6 +1,7 @@
 -- A reading is refused with 3 at its first pulse or never, and changes no byte.
-use Rattle.std.proofs.Common.{◌≡◌, ℕ, ◌/◌, ◌%◌, Bool, true, false, cond, eqb, List, [], ◌∷◌, map, sym, refl, ap, subst, arith}
+use Rattle.std.proofs.Common.{◌≡◌, ℕ, ◌/◌, ◌%◌, Bool, true, false, cond, eqb, List, [], ◌∷◌, map, sym, refl, ap, ◌∙◌, subst, arith}
 use Rattle.base.specs.Bits.{bits_of, bits_all}
+use Rattle.memory.proofs.Calm.{read_harmless, report_harmless}
 use Rattle.chip.specs.ChipStates.{ChipState, bytes_of, reset_chip, takes}
 use Rattle.base.proofs.Choice.{pick}
 use Rattle.line.specs.Lines.{presence, any_busy}
@@ -10,8 +11,8 @@ use Rattle.wire.specs.Exchanges.{answer, refuse, pulses}
 use Rattle.wire.specs.declared.exchange_fault.ExchangeError.{ExchangeError}
 use Rattle.wire.specs.declared.exchange_fault.ExchangeError.TheVariants.{NoPresence, Garbled}
 use Rattle.wire.proofs.Leading.{send-append}
-use Rattle.wire.proofs.Power.{first_refused}
-use Rattle.wire.proofs.Calm.{NotThree, Still, Leaves, GotAll, leaves, leaves_run, NoDwell, no_dwell, bytes_run, Unrefused, Anyhow, Free, Freed, freed_unrefused, freed_run, Ended, unrefused_run, busy_reset, freed_opening, command_hears, command_calm, CalmAll, calm_busy, calm_send, calm_bytes, heard_to}
+use Rattle.wire.proofs.Calm.{NotThree, Still, Leaves, GotAll, leaves, leaves_run, NoDwell, no_dwell, bytes_run, Unrefused, Anyhow, Free, Freed, freed_unrefused, freed_run, busy_reset, freed_opening, command_hears, command_calm, CalmAll, calm_busy, calm_send, calm_bytes, heard_to}
+use Rattle.wire.proofs.AtOnce.{refused_at_once}
 use Rattle.reading.specs.Readings.{all_ones, probes_scratchpad, reads_memory, closes_by_reset, failed, reading}
 use Rattle.reading.specs.Laws.{BusyUnchanged, LeavesFree, BytesStay}
 use Rattle.reading.proofs.Parts.{closed, judged, found, asked, call_at}
@@ -49,7 +50,7 @@ module _ (D : List ChipState → Type 0) (x row : ℕ) where
       freed_opening D x (send_bytes (0xF0 ∷ row % 256 ∷ row / 256 ∷ []) (read_bytes 8 k)) (fails NoPresence e) l b ub
       (λ l' o. subst (λ j. Freed D j l') (sym (send-append (bits_of 8 0xF0) (bits_all (row % 256 ∷ row / 256 ∷ [])) (read_bytes 8 k)))
       (heard_to D Free (bits_of 8 0xF0) (send_bits (bits_all (row % 256 ∷ row / 256 ∷ [])) (read_bytes 8 k)) l' (command_hears 0xF0 l' o)
-      (calm_send D (bits_all (row % 256 ∷ row / 256 ∷ [])) (read_bytes 8 k) (map (takes (bits_of 8 0xF0)) l') (command_calm 0xF0 (λ K m r. tt) l' o)
+      (calm_send D (bits_all (row % 256 ∷ row / 256 ∷ [])) (read_bytes 8 k) (map (takes (bits_of 8 0xF0)) l') (command_calm 0xF0 read_harmless l' o)
       (λ l'' h. calm_bytes D 8 k l'' h uk))))
 
 module _ (x row : ℕ) where
@@ -64,7 +65,7 @@ module _ (x row : ℕ) where
   freed l e =
       freed_opening Anyhow x (send_bytes (0xAA ∷ []) (read_bytes 3 (asked x row))) (failed NoPresence 1) l e (λ _ b. b)
       (λ l' o. heard_to Anyhow Free (bits_of 8 0xAA) (read_bytes 3 (asked x row)) l' (command_hears 0xAA l' o)
-      (calm_bytes Anyhow 3 (asked x row) (map (takes (bits_of 8 0xAA)) l') (command_calm 0xAA (λ K m r. tt) l' o) un_asked))
+      (calm_bytes Anyhow 3 (asked x row) (map (takes (bits_of 8 0xAA)) l') (command_calm 0xAA report_harmless l' o) un_asked))
 
   pub unrefused : (l : List ChipState) → any_busy l ≡ false → Unrefused (reading x row) l
   unrefused l e = freed_unrefused Anyhow (reading x row) l (freed l e)
@@ -88,16 +89,19 @@ never_three x row =
 pub busy_unchanged : BusyUnchanged
 busy_unchanged r x row e steps q = go (eqb (row % 8) 0) q
   where
-    begun : (t : Bool) → any_busy r.line ≡ t → (run 0 (reading x row) r).got ≡ line_busy → ((run 0 (reading x row) r).rig ≡ r) × (any_busy r.line ≡ true)
-    begun true b g = (ap (λ w. w.rig) (first_refused 0 (reading x row) r tt b), b)
-    begun false b g = absurd (subst Ended g (unrefused_run 0 (reading x row) r.line r.fuse (unrefused x row r.line b)))
+    begun : (run 0 (reading x row) r).got ≡ line_busy → (call_at x row r true).1 ≡ refused_as 3 e steps
+        → ((run 0 (reading x row) r).rig ≡ r) × (any_busy r.line ≡ true) × (e ≡ 0) × (steps ≡ 0)
+    begun g q =
+        let f = refused_at_once (reading x row) r tt (unrefused x row r.line) g in
+        let u : ◌≡◌ {A = Report (List ℕ)} (refused_as 3 0 0) (refused_as 3 e steps) = ap (λ w. report_of w.got w.steps) (sym f.0) ∙ q in
+        let none : 0 ≡ e = cc in let made : 0 ≡ steps = cc in (ap (λ w. w.rig) f.0, f.1, sym none, sym made)
 
     said : (g : Got (Said (List ℕ))) (n : ℕ) → GotAll NotThree g → report_of g n ≡ refused_as 3 e steps → g ≡ line_busy
     said (done (good a)) n h q = let z : ◌≡◌ {A = ℕ} 0 1 = cc in absurd (omega arith)
     said (done (bad k f)) n h q = absurd (h (cc))
     said line_busy n h q = refl
 
-    go : (t : Bool) → (call_at x row r t).1 ≡ refused_as 3 e steps → ((call_at x row r t).0 ≡ r) × (any_busy r.line ≡ true)
+    go : (t : Bool) → (call_at x row r t).1 ≡ refused_as 3 e steps → ((call_at x row r t).0 ≡ r) × (any_busy r.line ≡ true) × (e ≡ 0) × (steps ≡ 0)
     go true q =
-        begun (any_busy r.line) refl (said (run 0 (reading x row) r).got (run 0 (reading x row) r).steps (leaves_run NotThree 0 (reading x row) r (never_three x row)) q)
+        begun (said (run 0 (reading x row) r).got (run 0 (reading x row) r).steps (leaves_run NotThree 0 (reading x row) r (never_three x row)) q) q
     go false q = let z : ◌≡◌ {A = ℕ} 3 4 = cc in absurd (omega arith)

@@ -1,13 +1,14 @@
 -- How many steps a reading takes.
-use Rattle.std.proofs.Common.{◌≡◌, ℕ, ◌/◌, ◌%◌, ◌≤◌, Bool, true, false, cond, eqb, List, [], ◌∷◌, sym, refl, ◌∙◌, arith}
+use Rattle.std.proofs.Common.{◌≡◌, ℕ, ◌/◌, ◌%◌, ◌≤◌, Bool, true, false, cond, eqb, List, [], ◌∷◌, sym, refl, ap, ◌∙◌, arith}
 use Rattle.base.specs.Bits.{bits_all}
 use Rattle.rig.specs.Rigs.{reset_pulse}
-use Rattle.wire.specs.Jobs.{ret, Got, done, line_busy, run, Said, good, bad, answered, steps_in, report_of, send_bytes, read_bytes}
+use Rattle.wire.specs.Jobs.{ret, Got, done, line_busy, run, Said, good, bad, answered, refused_as, steps_in, report_of, send_bytes, read_bytes}
 use Rattle.wire.specs.Exchanges.{answer, refuse, pulses}
 use Rattle.wire.specs.declared.exchange_fault.ExchangeError.TheVariants.{NoPresence}
 use Rattle.wire.proofs.Counts.{LeavesAt, GotAt, leaves_at, at-step, at-send, at_bytes, at-opening}
 use Rattle.reading.specs.Readings.{all_ones, failed, reading}
 use Rattle.reading.specs.Laws.{ReadingSteps}
+use Rattle.reading.proofs.Quiet.{busy_unchanged}
 use Rattle.reading.proofs.Parts.{closed, judged, found, asked, call_at}
 
 abbrev Takes : ℕ → Said (List ℕ) → Type 0
@@ -46,13 +47,13 @@ said (done (good xs)) n steps found h q = let e : n ≡ steps = cc in sym e ∙ 
 said (done (bad k e)) n steps found h q = let z : ◌≡◌ {A = ℕ} 0 1 = cc in absurd (omega arith)
 said line_busy n steps found h q = let z : ◌≡◌ {A = ℕ} 0 1 = cc in absurd (omega arith)
 
-bounded : (g : Got (Said (List ℕ))) (n : ℕ) → GotAt Takes n g → steps_in (report_of g n) ≤ 267
-bounded (done (good xs)) n h = omega (arith, h)
-bounded (done (bad k e)) n h = h
-bounded line_busy n h = omega arith
+bounded : (g : Got (Said (List ℕ))) (n : ℕ) → (g ≡ line_busy → n ≡ 0) → GotAt Takes n g → steps_in (report_of g n) ≤ 267
+bounded (done (good xs)) n z h = omega (arith, h)
+bounded (done (bad k e)) n z h = h
+bounded line_busy n z h = let s = z refl in omega (arith, s)
 
 pub reading_steps : ReadingSteps
-reading_steps r x row = (λ found steps. read found steps (eqb (row % 8) 0), most (eqb (row % 8) 0))
+reading_steps r x row = (λ found steps. read found steps (eqb (row % 8) 0), most (eqb (row % 8) 0) (λ n q. (busy_unchanged r x row 0 n q).3))
   where
     counts : GotAt Takes (run 0 (reading x row) r).steps (run 0 (reading x row) r).got
     counts = leaves_at Takes 0 (reading x row) r (takes x row)
@@ -61,6 +62,8 @@ reading_steps r x row = (λ found steps. read found steps (eqb (row % 8) 0), mos
     read found steps true q = said (run 0 (reading x row) r).got (run 0 (reading x row) r).steps steps found counts q
     read found steps false q = let z : ◌≡◌ {A = ℕ} 0 1 = cc in absurd (omega arith)
 
-    most : (t : Bool) → steps_in (call_at x row r t).1 ≤ 267
-    most true = bounded (run 0 (reading x row) r).got (run 0 (reading x row) r).steps counts
-    most false = omega arith
+    most : (t : Bool) → ((n : ℕ) → (call_at x row r t).1 ≡ refused_as 3 0 n → n ≡ 0) → steps_in (call_at x row r t).1 ≤ 267
+    most true early =
+        bounded (run 0 (reading x row) r).got (run 0 (reading x row) r).steps
+        (λ q. early (run 0 (reading x row) r).steps (ap (λ g. report_of g (run 0 (reading x row) r).steps) q)) counts
+    most false early = omega arith

@@ -1,25 +1,24 @@
 -- Reading tells the truth.
 use Rattle.std.proofs.Common.{◌≡◌, ℕ, zero, suc, ◌+◌, ◌%◌, ◌^◌, ◌<◌, Bool, true, false, cond, ◌&&◌, eqb, List, [], ◌∷◌, ◌++◌, map, drop, sym, refl, ap, ◌∙◌, subst, arith, eq-eqb, ne_eqb}
 use mathlib.Core.Bool.{and-false}
-use Rattle.std.proofs.lemmas.Bool.{true≢false}
 use Rattle.base.specs.Bits.{bits_all}
 use Rattle.base.proofs.Queues.{bytes_append}
 use Rattle.base.specs.Crc.{crc16, inverted}
 use Rattle.kinds.specs.Kinds.{Rules, Bytes}
 use Rattle.memory.specs.Scratchpads.{Regs, flag, status, report, offset_of, Work, on, sending, command, Padded}
-use Rattle.memory.specs.Memories.{Memory, padded, bytes_in}
+use Rattle.memory.specs.Memories.{padded}
 use Rattle.memory.proofs.Sound.{SoundRegs, SoundPad, SoundMemory}
-use Rattle.chip.specs.Chips.{Live, off, Phase, selected, powered}
+use Rattle.chip.specs.Chips.{Phase, selected}
 use Rattle.chip.specs.Chips.{on as under}
-use Rattle.chip.specs.ChipStates.{ChipState, bytes_of, reset_chip, opened_by}
-use Rattle.chip.proofs.Sound.{Sound, SoundAll, met_sounds}
+use Rattle.chip.specs.ChipStates.{ChipState, bytes_of, has_power, reset_chip, opened_by}
+use Rattle.chip.proofs.Sound.{SoundAll, met_sounds}
 use Rattle.line.specs.Lines.{presence, any_busy}
 use Rattle.rig.specs.Rigs.{reset_pulse}
 use Rattle.wire.specs.Jobs.{ret, Got, done, line_busy, run, Said, good, bad, answered, report_of, send_bytes, read_bytes}
 use Rattle.wire.specs.Exchanges.{answer, refuse, pulses, error_code}
 use Rattle.wire.specs.declared.exchange_fault.ExchangeError.{ExchangeError}
 use Rattle.wire.specs.declared.exchange_fault.ExchangeError.TheVariants.{NoPresence}
-use Rattle.wire.specs.Laws.{powered_in, NoneHas, row_in}
+use Rattle.wire.specs.Laws.{powered_in, NoneHas, Single, row_in}
 use Rattle.wire.proofs.Leading.{free, Leads, leads_then, WideAll, opened, unopened}
 use Rattle.wire.proofs.Alone.{QuietAll, put, talking, busy_put, one_byte, bytes_read, send_quiet, bytes_quiet}
 use Rattle.wire.proofs.One.{opened_none, opened_wide, others_quiet, absent_quiet, presence_mid, open_one}
@@ -28,7 +27,7 @@ use Rattle.reading.specs.Readings.{all_ones, probes_scratchpad, reads_memory, fa
 use Rattle.reading.specs.Laws.{Kept, ReadingTells}
 use Rattle.reading.proofs.Parts.{closed, judged, found, asked, call_at}
 use Rattle.reading.proofs.Found.{found_row, closed_by}
-use Rattle.wire.proofs.Selected.{sound_wide, sound_mid, powered_one}
+use Rattle.wire.proofs.Selected.{sound_wide, sound_mid, powered_one, padding}
 
 -- E/S is never FFh
 status_bound : (r : Regs) → r.e < 8 → status r < 255
@@ -174,13 +173,15 @@ module _ (x row : ℕ) where
             (6, 1, ap (λ w. w.got) ((leads_then (opened x (send_bytes (0xAA ∷ []) (read_bytes 3 (asked x row))) (failed NoPresence 1) l hx w e p) silence).so 0).1)
         go false p = (5, 1, ap (λ w. w.got) ((unopened x (send_bytes (0xAA ∷ []) (read_bytes 3 (asked x row))) (failed NoPresence 1) l e p).so 0).1)
 
-module _ (x row : ℕ) (hx : x < 2 ^ 64) (hr : row < 65536) (us vs : List ChipState) (nu : NoneHas x us) (nv : NoneHas x vs) (su : SoundAll us) (sv : SoundAll vs) where
-  tag_tells : (n : ℕ) (l : Live) (mem : Memory) → n ≡ x → powered l ≡ true → SoundMemory mem → any_busy (us ++ (record { number = n; live = l; memory = mem } ∷ vs)) ≡ false
-      → (run 0 (reading x row) (free (us ++ (record { number = n; live = l; memory = mem } ∷ vs)))).got ≡ done (good (row_in (bytes_in mem) row))
-  tag_tells n off mem e p s b = absurd (true≢false (sym p))
-  tag_tells n (under rc ph) (padded q) e p s b =
-      subst (λ k. any_busy (us ++ (record { number = k; live = under rc ph; memory = padded q } ∷ vs)) ≡ false → (run 0 (reading x row) (free (us ++ (record { number = k; live = under rc ph; memory = padded q } ∷ vs)))).got ≡ done (good (row_in q.bytes row)))
-      (sym e) (λ b'. ap (λ w. w.got) ((reads x row hx hr us vs nu nv (sound_wide us su) (sound_wide vs sv) q s rc ph b').so 0).1) b
+tag_tells : (x row : ℕ) → x < 2 ^ 64 → row < 65536 → (l : List ChipState) → SoundAll l → any_busy l ≡ false → (o : Single x l) → has_power o.tag ≡ true
+    → (run 0 (reading x row) (free l)).got ≡ done (good (row_in (bytes_of o.tag) row))
+tag_tells x row hx hr l s b o p =
+    let parts = sound_mid o.before o.behind o.tag (subst SoundAll o.so s) in
+    let t = padding x o.tag o.is p o.pad in
+    ap (λ k. (run 0 (reading x row) (free k)).got) o.so
+    ∙ subst (λ c. SoundMemory c.memory → any_busy (o.before ++ (c ∷ o.behind)) ≡ false → (run 0 (reading x row) (free (o.before ++ (c ∷ o.behind)))).got ≡ done (good (row_in (bytes_of c) row))) (sym t.so)
+    (λ m q. ap (λ w. w.got) ((reads x row hx hr o.before o.behind o.none_before o.none_behind (sound_wide o.before parts.0) (sound_wide o.behind parts.2) t.pad m t.rc t.phase q).so 0).1)
+    parts.1.memory (ap any_busy (sym o.so) ∙ b)
 
 pub reading-tells : ReadingTells
 reading-tells r x row met hx ha hr e s = record { kept = kept; lacked = lacked }
@@ -188,17 +189,12 @@ reading-tells r x row met hx ha hr e s = record { kept = kept; lacked = lacked }
     sounds : SoundAll r.line
     sounds = met_sounds r.line met
 
-    parts : SoundAll s.before × Sound s.tag × SoundAll s.behind
-    parts = sound_mid s.before s.behind s.tag (subst SoundAll s.so sounds)
-
     aligned : eqb (row % 8) 0 ≡ true
     aligned = eq-eqb (row % 8) 0 ha
 
     freely : powered_in x r.line ≡ true → (run 0 (reading x row) (free r.line)).got ≡ done (good (row_in (bytes_of s.tag) row))
     freely u =
-        ap (λ l. (run 0 (reading x row) (free l)).got) s.so
-        ∙ tag_tells x row hx hr s.before s.behind s.none_before s.none_behind parts.0 parts.2 s.tag.number s.tag.live s.tag.memory s.is
-        (powered_one x s.before s.behind s.tag s.none_before s.none_behind (ap (powered_in x) (sym s.so) ∙ u)) parts.1.memory (ap any_busy (sym s.so) ∙ e)
+        tag_tells x row hx hr r.line sounds e s (powered_one x s.before s.behind s.tag s.none_before s.none_behind (ap (powered_in x) (sym s.so) ∙ u))
 
     kept : Kept x row r → (steps : ℕ) × ((read_call x row r).1 ≡ answered (row_in (bytes_of s.tag) row) steps)
     kept k = (

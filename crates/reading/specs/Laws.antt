@@ -42,7 +42,8 @@ RowIsRead =
 -- refusal 3 comes before any step, to a line that is busy, with all unchanged, whatever its chips have met
 abbrev pub BusyUnchanged : Type 0
 BusyUnchanged =
-    (r : RigState) (x row e steps : ℕ) → (read_call x row r).1 ≡ refused_as 3 e steps → ((read_call x row r).0 ≡ r) × (any_busy r.line ≡ true)
+    (r : RigState) (x row e steps : ℕ) → (read_call x row r).1 ≡ refused_as 3 e steps
+    → ((read_call x row r).0 ≡ r) × (any_busy r.line ≡ true) × (e ≡ 0) × (steps ≡ 0)
 
 -- a reading leaves no tag programming, whichever step is cut, on a line of any chips that was not busy
 abbrev pub LeavesFree : Type 0

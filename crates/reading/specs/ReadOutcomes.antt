@@ -3,7 +3,7 @@ use Rattle.std.specs.Prelude.{◌≡◌, ℕ, List, Ok, Err, Result}
 use Rattle.rig.specs.RigModel.{Counting}
 use Rattle.rig.specs.declared.rig_fault.RigFault.TheVariants.{LineBusy}
 use Rattle.wire.specs.Jobs.{Ran, done, line_busy, run, Said, good, bad, Report, answered, refused_as}
-use Rattle.wire.specs.Exchanges.{error_code, fault_report, Tallies}
+use Rattle.wire.specs.Exchanges.{error_code, fault_report, fault_count, Tallies}
 use Rattle.wire.specs.declared.exchange_fault.ExchangeFault.TheVariants.{Rig, Failed}
 use Rattle.reading.specs.Readings.{reading}
 use Rattle.reading.specs.declared.read_fault.ReadFault.{ReadFault}
@@ -19,7 +19,7 @@ read_report (Err (InExchange f)) l = fault_report f
 abbrev pub read_end : Counting → Result (List ℕ × ℕ) ReadFault → Ran (Said (List ℕ))
 read_end d (Ok a) = record { rig = d.rig; steps = a.1; got = done (good a.0) }
 read_end d (Err BadRow) = record { rig = d.rig; steps = 0; got = done (bad 4 0) }
-read_end d (Err (InExchange (Rig LineBusy))) = record { rig = d.rig; steps = d.steps; got = line_busy }
+read_end d (Err (InExchange (Rig (LineBusy s)))) = record { rig = d.rig; steps = s; got = line_busy }
 read_end d (Err (InExchange (Failed error e s))) = record { rig = d.rig; steps = s; got = done (bad (error_code error) e) }
 
 abbrev pub RowAccepted : {A : Type 0} → Result A ReadFault → Type 0
@@ -37,8 +37,7 @@ Counts d (Err (InExchange e)) = Tallies d e
 abbrev pub read_count : ℕ → Result ℕ ReadFault → ℕ
 read_count n (Ok s) = s
 read_count n (Err BadRow) = n
-read_count n (Err (InExchange (Rig f))) = n
-read_count n (Err (InExchange (Failed error e s))) = s
+read_count n (Err (InExchange f)) = fault_count n f
 
 -- the exchanges of a reading led from d to d' and answered r
 pub record Read (x row : ℕ) (d d' : Counting) (r : Result (List ℕ × ℕ) ReadFault) : Type 0 where

@@ -3,18 +3,20 @@ ghost use Rattle.rig.specs.RigModel.{counting};
 ghost use Rattle.wire.specs.Exchanges.{Told};
 ghost use Rattle.reading.specs.Readings.{probes_scratchpad, reads_memory, closes_by_reset};
 
+use base::RegistrationNumber;
 use kinds::row::ROW;
-use line::line::Line;
-use memory::memory_command::MemoryCommand;
-use base::registration_number::RegistrationNumber;
-use rig::rig::Rig;
+use line::Line;
+use memory::MemoryCommand;
+use rig::Rig;
 use wire::bytes::{read_bytes, send_byte, send_bytes};
-use wire::exchange_fault::{ExchangeFault, ExchangeError};
-use wire::opening::{reset_and_match_rom, expect_presence};
-use wire::target::Target;
+use wire::opening::{expect_presence, reset_and_match_rom};
+use wire::{ExchangeError, ExchangeFault, Target};
 
 // AAh and three bytes; three times FFh is garbled.
-pub fn probe_scratchpad<L: Line>(rig: &mut Rig<L>, number: RegistrationNumber) -> Result<(), ExchangeFault>
+pub fn probe_scratchpad<L: Line>(
+    rig: &mut Rig<L>,
+    number: RegistrationNumber,
+) -> Result<(), ExchangeFault>
     ensures { Told (probes_scratchpad number.word) (counting L.chips rig.old) (counting L.chips rig.new) result }
 {
     reset_and_match_rom(rig, number, 1)?;

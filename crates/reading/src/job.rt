@@ -10,14 +10,14 @@ ghost use Rattle.reading.specs.Readings.{read_call};
 ghost use Rattle.reading.specs.Laws.{Tells, ReadingTells, RowIsRead, BusyUnchanged, LeavesFree, ReadingSteps};
 ghost use Rattle.reading.specs.ReadOutcomes.{Read, read_report, read_count};
 
-use crate::exchanges::{probe_scratchpad, closing_reset, read_memory};
+use crate::exchanges::{closing_reset, probe_scratchpad, read_memory};
 use crate::read_fault::ReadFault;
+use base::RegistrationNumber;
 use kinds::row::ROW;
-use line::line::Line;
-use base::registration_number::RegistrationNumber;
-use rig::rig::Rig;
+use line::Line;
+use rig::Rig;
+use wire::Target;
 use wire::opening::begin_job;
-use wire::target::Target;
 
 fn read_steps<L: Line>(rig: &mut Rig<L>, target: Target) -> Result<([u8; ROW], u32), ReadFault>
     ensures { Read target.number.word target.row (counting L.chips rig.old) (counting L.chips rig.new) result }

@@ -4,3 +4,5 @@
 pub mod exchanges;
 pub mod job;
 pub mod read_fault;
+
+pub use read_fault::ReadFault;

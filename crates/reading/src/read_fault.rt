@@ -4,8 +4,8 @@ ghost use Rattle.wire.specs.Jobs.{Report};
 ghost use Rattle.reading.specs.ReadOutcomes.{read_report};
 ghost use Rattle.reading.specs.declared.read_fault.ReadFault.TheVariants.{Exchange};
 
-use base::refusal::Refusal;
-use wire::exchange_fault::{ExchangeFault, Refused};
+use base::Refusal;
+use wire::{ExchangeFault, Refused};
 
 // Why a reading was refused or failed.
 #[derive(Clone, Copy, Debug, PartialEq, Eq)]
@@ -14,7 +14,6 @@ pub enum ReadFault {
     Exchange(ExchangeFault),
 }
 
-// No trait for the faults of the three jobs: each tells a report of another type.
 impl ReadFault {
     // The refusal, the exchange and the steps made.
     pub fn refused(&self) -> Refused

@@ -9,7 +9,11 @@ use Rattle.rig.specs.declared.rig.Fuse.{Fuse}
 use Rattle.rig.specs.declared.rig.Rig.{Rig}
 
 abbrev pub refusal : RigFault → ℕ
-refusal LineBusy = 3
+refusal (LineBusy s) = 3
+
+-- the steps that it carries
+abbrev pub steps_made : RigFault → ℕ
+steps_made (LineBusy s) = s
 
 abbrev pub fuse_of : Option Fuse → FuseState
 fuse_of None = none
@@ -27,18 +31,18 @@ module _ {L : Type 0} (chips : L → List ChipState) where
   abbrev pub counting : Rig L → Counting
   counting r = record { rig = rig_of r; steps = r.steps }
 
--- a pulse: refused with nothing changed, or one step more
+-- a pulse: refused with nothing changed, after so many steps, or one step more
 abbrev pub counted_pulse : Pulse → Counting → Counting × Result Bool RigFault
 counted_pulse p d =
     elim (refused p d.rig.line) [
-      | true ↦ (d, Err LineBusy)
+      | true ↦ (d, Err (LineBusy d.steps))
       | false ↦ (record { rig = (pulse p d.rig).0; steps = counted d.steps }, Ok (pulse p d.rig).1)
     ]
 
--- a job begins, its steps counted from 0, unless the line is busy
+-- a job begins, its steps counted from 0, unless the line is busy: then it has made none
 abbrev pub CountBegins : Counting → Counting → Result (Unit {0}) RigFault → Type 0
 CountBegins d d' (Ok u) = (any_busy d.rig.line ≡ false) × (d' ≡ record { rig = d.rig; steps = 0 })
-CountBegins d d' (Err f) = (any_busy d.rig.line ≡ true) × (d' ≡ d)
+CountBegins d d' (Err f) = (any_busy d.rig.line ≡ true) × (d' ≡ d) × (f ≡ LineBusy 0)
 
 -- whether a step becomes a cut
 abbrev pub cuts_now : Option Fuse → Bool

@@ -3,3 +3,6 @@
 
 pub mod rig;
 pub mod rig_fault;
+
+pub use rig::{Fuse, Rig};
+pub use rig_fault::RigFault;

@@ -4,7 +4,7 @@ ghost use Rattle.rig.specs.Rigs.{reset_pulse, slot_pulse, dwell_pulse, pulse, ma
 ghost use Rattle.rig.specs.RigModel.{rig_of, counting, CountBegins, counted_pulse, cuts_now, lowered_fuse, cut_by};
 
 use crate::rig_fault::RigFault;
-use line::line::Line;
+use line::Line;
 
 // Cuts power at the step that comes after `count` more, with a mask.
 #[derive(Clone, Copy, Debug, PartialEq, Eq)]
@@ -14,7 +14,6 @@ pub struct Fuse {
 }
 
 // A line with a fuse, and the steps since they were last set to 0.
-// No `impl Model`: the value of a line holds the rules of its tags, which are functions, and a function has no code.
 #[derive(Drop)]
 pub struct Rig<L> {
     line: L,
@@ -52,7 +51,7 @@ impl<L: Line> Rig<L> {
         ensures { CountBegins (counting L.chips self.old) (counting L.chips self.new) result }
     {
         if self.line.is_busy() {
-            return Err(RigFault::LineBusy);
+            return Err(RigFault::LineBusy { steps: 0 });
         }
         self.begin_count();
         Ok(())
@@ -123,7 +122,7 @@ impl<L: Line> Rig<L> {
         ensures { (counting L.chips self.new, result) ≡ counted_pulse reset_pulse (counting L.chips self.old) }
     {
         if self.line.is_busy() {
-            return Err(RigFault::LineBusy);
+            return Err(RigFault::LineBusy { steps: self.steps });
         }
         Ok(self.step(false, |line| {
             let present = line.presence();
@@ -137,7 +136,7 @@ impl<L: Line> Rig<L> {
         ensures { (counting L.chips self.new, result) ≡ counted_pulse (slot_pulse bit) (counting L.chips self.old) }
     {
         if self.line.is_busy() {
-            return Err(RigFault::LineBusy);
+            return Err(RigFault::LineBusy { steps: self.steps });
         }
         Ok(self.step(bit, |line| {
             let seen = bit & line.pull();

@@ -1,22 +1,32 @@
 ghost use Rattle.std.specs.Prelude.{◌≡◌};
 ghost use Rattle.base.specs.Refusals.{code_of};
-ghost use Rattle.rig.specs.RigModel.{refusal};
+ghost use Rattle.rig.specs.RigModel.{refusal, steps_made};
 
-use base::refusal::Refusal;
+use base::Refusal;
 
 // Why a rig refuses a pulse.
 #[derive(Clone, Copy, Debug, PartialEq, Eq)]
 pub enum RigFault {
-    LineBusy,
+    // With the steps that the rig has counted so far: in a job those of the job, 0 before any.
+    LineBusy { steps: u32 },
 }
 
-// A method, as of every fault: `fault.refusal()` says what is asked of it, and `Refusal::from(fault)` would not.
+// The refusal that it is told as.
 impl RigFault {
+    // The steps made before it.
+    pub fn steps(&self) -> u32
+        ensures { result ≡ steps_made self.now }
+    {
+        match self {
+            RigFault::LineBusy { steps } => *steps,
+        }
+    }
+
     pub fn refusal(&self) -> Refusal
         ensures { code_of result ≡ refusal self.now }
     {
         match self {
-            RigFault::LineBusy => Refusal::LineBusy,
+            RigFault::LineBusy { .. } => Refusal::LineBusy,
         }
     }
 }

@@ -24,7 +24,7 @@ said : (d : Counting) (r : Result (ℕ × ℕ) SearchFault) (l : List ℕ) → P
 said d (Ok a) l b = refl
 said d (Err NoPlace) l b = absurd b
 said d (Err (Full p s)) l b = refl
-said d (Err (InExchange (Rig LineBusy))) l b = refl
+said d (Err (InExchange (Rig (LineBusy s)))) l b = refl
 said d (Err (InExchange (Failed error e s))) l b = refl
 
 -- a search that began is not refused for want of a place
@@ -49,6 +49,6 @@ pub counted_after : {room : ℕ} {d d' : Counting} {l l' : List ℕ} (r : Result
 counted_after (Ok a) n b o = sym o.counts
 counted_after (Err NoPlace) n b o = absurd o.begun
 counted_after (Err (Full p s)) n b o = sym o.counts
-counted_after {room} {d} (Err (InExchange (Rig LineBusy))) n b o =
+counted_after {room} {d} (Err (InExchange (Rig (LineBusy s)))) n b o =
     absurd (subst Ended (sym (ap (λ w. w.got) o.so)) (unrefused_run d.steps (passes room 1 [] []) d.rig.line d.rig.fuse (unrefused_passes room 1 [] [] d.rig.line b)))
 counted_after (Err (InExchange (Failed error e s))) n b o = sym o.counts

@@ -5,7 +5,7 @@ use Rattle.base.proofs.Choice.{pick}
 use Rattle.rig.specs.Rigs.{RigState, reset_pulse, slot_pulse}
 use Rattle.wire.specs.Jobs.{Job, ret, step, Got, done, line_busy, run, good, bad, Report, answered, refused_as}
 use Rattle.wire.proofs.Counts.{LeavesAt, GotAt, leaves_at, at-step, at-send}
-use Rattle.rom_search.specs.Searches.{NextPath, no_path, next_path, onward, tail_of, chosen, triples, passes, room_of, listed}
+use Rattle.rom_search.specs.Searches.{NextPath, no_path, next_path, onward, tail_of, chosen, triples, passes, most_places, room_of, listed}
 use Rattle.rom_search.specs.Laws.{SearchSteps, AbsentSteps}
 use Rattle.rom_search.proofs.Complete.{Out, going, seeks, after_reset}
 
@@ -37,7 +37,7 @@ at-triples lost top z (suc n) k path K h ht g =
         at-step Takes (slot_pulse (chosen a b path)) (k + 1 + 1) (λ _. rest a b) (omega arith) (λ _. subst (λ j. LeavesAt Takes j (rest a b)) e ih)
 
 -- a pass is 201 steps
-pub at-passes : (room pass : ℕ) (path : List Bool) (got : List ℕ) → pass + room ≤ 65 → LeavesAt Takes (201 * pass) (passes room (suc pass) path got)
+pub at-passes : (room pass : ℕ) (path : List Bool) (got : List ℕ) → pass + room ≤ suc most_places → LeavesAt Takes (201 * pass) (passes room (suc pass) path got)
 at-passes zero pass path got h = ((λ _. let e : suc pass - 1 ≡ pass = omega arith in ap (λ n. 201 * n) (sym e)), (λ z. absurd (omega arith)), omega arith)
 at-passes (suc room) pass path got h =
     at-step Takes reset_pulse (201 * pass) (after_reset room (suc pass) path got) (omega arith)
@@ -57,7 +57,7 @@ at-passes (suc room) pass path got h =
         (at-triples (ret (bad 6 (suc pass), got)) (201 * suc pass) lost 64 (201 * pass + 1 + 8) path (going room (suc pass) got) (omega arith) (omega arith)
         (λ bs nx. let e : 201 * suc pass ≡ 201 * pass + 1 + 8 + 3 * 64 = omega arith in subst (λ j. LeavesAt Takes j (going room (suc pass) got bs nx)) e (g bs nx)))
 
-pub room_most : (places : ℕ) → room_of places ≤ 64
+pub room_most : (places : ℕ) → room_of places ≤ most_places
 room_most places = omega arith
 
 module _ (count steps : ℕ) (found : List ℕ) where
@@ -78,10 +78,10 @@ module _ (count steps : ℕ) (found : List ℕ) where
       let u : ◌≡◌ {A = Report ℕ} (refused_as k e n) (refused_as 9 count steps) = ap (λ (p : Report ℕ × List ℕ). p.0) q in
       let a : e ≡ count = cc in let b : n ≡ steps = cc in let c : k ≡ 9 = cc in sym b ∙ h.0 c ∙ ap (λ k. 201 * k) a
   said line_busy n h (inl q) =
-      let u : ◌≡◌ {A = Report ℕ} (refused_as 3 0 0) (answered count steps) = ap (λ (p : Report ℕ × List ℕ). p.0) q in
+      let u : ◌≡◌ {A = Report ℕ} (refused_as 3 0 n) (answered count steps) = ap (λ (p : Report ℕ × List ℕ). p.0) q in
       let z : ◌≡◌ {A = ℕ} 0 1 = cc in absurd (omega arith)
   said line_busy n h (inr q) =
-      let u : ◌≡◌ {A = Report ℕ} (refused_as 3 0 0) (refused_as 9 count steps) = ap (λ (p : Report ℕ × List ℕ). p.0) q in
+      let u : ◌≡◌ {A = Report ℕ} (refused_as 3 0 n) (refused_as 9 count steps) = ap (λ (p : Report ℕ × List ℕ). p.0) q in
       let z : ◌≡◌ {A = ℕ} 3 9 = cc in absurd (omega arith)
 
   none_said : Told (refused_as 9 0 0, []) → steps ≡ 201 * count
@@ -99,7 +99,7 @@ search_steps r places count steps found h = go (eqb places 0) h
     go true q = none_said count steps found q
     go false q =
         said count steps found (run 0 (passes (room_of places) 1 [] []) r).got (run 0 (passes (room_of places) 1 [] []) r).steps
-        (leaves_at Takes 0 (passes (room_of places) 1 [] []) r (at-passes (room_of places) 0 [] [] (let m : room_of places ≤ 64 = room_most places in omega arith))) q
+        (leaves_at Takes 0 (passes (room_of places) 1 [] []) r (at-passes (room_of places) 0 [] [] (let m : room_of places ≤ most_places = room_most places in omega arith))) q
 
 -- refused with 5, it made whole passes and one reset
 module _ (pass steps : ℕ) (found : List ℕ) where
@@ -111,7 +111,7 @@ module _ (pass steps : ℕ) (found : List ℕ) where
       let u : ◌≡◌ {A = Report ℕ} (refused_as k e n) (refused_as 5 pass steps) = ap (λ (p : Report ℕ × List ℕ). p.0) q in
       let a : e ≡ pass = cc in let b : n ≡ steps = cc in let c : k ≡ 5 = cc in let d = h.1 c in omega (arith, a, b, d)
   said_absent line_busy n h q =
-      let u : ◌≡◌ {A = Report ℕ} (refused_as 3 0 0) (refused_as 5 pass steps) = ap (λ (p : Report ℕ × List ℕ). p.0) q in
+      let u : ◌≡◌ {A = Report ℕ} (refused_as 3 0 n) (refused_as 5 pass steps) = ap (λ (p : Report ℕ × List ℕ). p.0) q in
       let z : ◌≡◌ {A = ℕ} 3 5 = cc in absurd (omega arith)
 
   none_absent : ◌≡◌ {A = Report ℕ × List ℕ} (refused_as 9 0 0, []) (refused_as 5 pass steps, found) → steps ≡ 201 * (pass - 1) + 1
@@ -124,4 +124,4 @@ absent_steps r places pass steps found h =
     pick (eqb places 0) (λ (a : RigState × (Report ℕ × List ℕ)). a.1 ≡ (refused_as 5 pass steps, found) → steps ≡ 201 * (pass - 1) + 1)
     (none_absent pass steps found)
     (said_absent pass steps found (run 0 (passes (room_of places) 1 [] []) r).got (run 0 (passes (room_of places) 1 [] []) r).steps
-    (leaves_at Takes 0 (passes (room_of places) 1 [] []) r (at-passes (room_of places) 0 [] [] (let m : room_of places ≤ 64 = room_most places in omega arith)))) h
+    (leaves_at Takes 0 (passes (room_of places) 1 [] []) r (at-passes (room_of places) 0 [] [] (let m : room_of places ≤ most_places = room_most places in omega arith)))) h

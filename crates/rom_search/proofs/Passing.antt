@@ -8,7 +8,7 @@ use Rattle.wire.specs.Jobs.{Job, ret, step, Ran, done, line_busy, run}
 use Rattle.wire.specs.Jobs.{send_bytes, good, bad}
 use Rattle.rom_search.specs.Searches.{triples, NextPath, no_path, next_path, onward, chosen, tail_of, head_from, passes}
 use Rattle.wire.proofs.Bind.{bind}
-use Rattle.rig.specs.RigModel.{Counting, counted_pulse}
+use Rattle.rig.specs.RigModel.{Counting, counted_pulse, steps_made}
 use Rattle.rig.specs.declared.rig_fault.RigFault.{RigFault}
 use Rattle.rig.specs.declared.rig_fault.RigFault.TheVariants.{LineBusy}
 use Rattle.wire.specs.Outcomes.{does, sends, keep, onward as onward_by, onwards}
@@ -16,6 +16,7 @@ use Rattle.wire.specs.declared.exchange_fault.ExchangeError.TheVariants.{NoPrese
 use Rattle.wire.specs.declared.exchange_fault.ExchangeFault.{ExchangeFault}
 use Rattle.wire.specs.declared.exchange_fault.ExchangeFault.TheVariants.{Rig, Failed}
 use Rattle.wire.specs.Exchanges.{error_code}
+use Rattle.wire.proofs.Tallies.{Carried, beat_carried, does_carried}
 use Rattle.wire.proofs.Follows.{past, run_step, run-send, run_part}
 use Rattle.rom_search.specs.declared.search_fault.SearchFault.TheVariants.{Full, Exchange as InExchange}
 use Rattle.rom_search.specs.Triplets.{path_word, triplets_along}
@@ -117,13 +118,13 @@ pass_as w e d = go (counted_pulse reset_pulse d).0 (counted_pulse reset_pulse d)
 module _ (n e w : ℕ) (found : List ℕ) where
   abbrev pub follow_pass : Counting → Result Pass ExchangeFault → Ran Out
   follow_pass d (Ok p) = run d.steps (onto n e found (Some p)) d.rig
-  follow_pass d (Err (Rig LineBusy)) = record { rig = d.rig; steps = d.steps; got = line_busy }
+  follow_pass d (Err (Rig (LineBusy s))) = record { rig = d.rig; steps = s; got = line_busy }
   follow_pass d (Err (Failed error x s)) = record { rig = d.rig; steps = s; got = done (bad (error_code error) x, found) }
 
   on_past : {C : Type 0} (d : Counting) (r : Result C RigFault) (f : C → Counting → Ran Out) (rest : C → Counting → Counting × Result Pass ExchangeFault)
       → ((c : C) (s : Counting) → f c s ≡ follow_pass (rest c s).0 (rest c s).1) → past d r f ≡ follow_pass (onwards Rig d r rest).0 (onwards Rig d r rest).1
   on_past d (Ok c) f rest h = h c d
-  on_past d (Err LineBusy) f rest h = refl
+  on_past d (Err (LineBusy s)) f rest h = refl
 
   pub run_pass : (d : Counting) → run d.steps (passes (suc n) e (bits_of 64 w) found) d.rig ≡ follow_pass (pass_told w e d).0 (pass_told w e d).1
   run_pass d =
@@ -149,31 +150,31 @@ module _ (n e w : ℕ) (found : List ℕ) where
 -- a fault of a pass carries the pass's number, and the steps that the rig has counted
 abbrev Numbered : ℕ → Counting × Result Pass ExchangeFault → Type 0
 Numbered e (d, Ok p) = Unit {0}
-Numbered e (d, Err (Rig x)) = Unit {0}
+Numbered e (d, Err (Rig x)) = steps_made x ≡ d.steps
 Numbered e (d, Err (Failed error x s)) = (x ≡ e) × (s ≡ d.steps)
 
 numbered : (w e : ℕ) (d : Counting) → Numbered e (pass_told w e d)
-numbered w e d = subst (Numbered e) (sym (pass_as w e d)) (first (counted_pulse reset_pulse d).0 (counted_pulse reset_pulse d).1)
+numbered w e d = subst (Numbered e) (sym (pass_as w e d)) (first (counted_pulse reset_pulse d).0 (counted_pulse reset_pulse d).1 (beat_carried reset_pulse d))
   where
     last : (o : Option Pass) (s : Counting) → Numbered e (pass_found e o s)
     last None s = (refl, refl)
     last (Some p) s = tt
 
-    third : (s : Counting) (r : Result (Option Pass) RigFault) → Numbered e (onwards Rig s r (λ o s. pass_found e o s))
-    third s (Ok o) = last o s
-    third s (Err x) = tt
+    third : (s : Counting) (r : Result (Option Pass) RigFault) → Carried s r → Numbered e (onwards Rig s r (λ o s. pass_found e o s))
+    third s (Ok o) c = last o s
+    third s (Err x) c = c
 
-    second : (s : Counting) (r : Result (Unit {0}) RigFault) → Numbered e (onwards Rig s r (λ _ s. onward_by Rig (does (triplets_along w) s) (λ o s. pass_found e o s)))
-    second s (Ok u) = third (does (triplets_along w) s).0 (does (triplets_along w) s).1
-    second s (Err x) = tt
+    second : (s : Counting) (r : Result (Unit {0}) RigFault) → Carried s r → Numbered e (onwards Rig s r (λ _ s. onward_by Rig (does (triplets_along w) s) (λ o s. pass_found e o s)))
+    second s (Ok u) c = third (does (triplets_along w) s).0 (does (triplets_along w) s).1 (does_carried (triplets_along w) s)
+    second s (Err x) c = c
 
     opened : (b : Bool) (s : Counting) → Numbered e (reset w e b s)
-    opened true s = second (does (sends (0xF0 ∷ [])) s).0 (does (sends (0xF0 ∷ [])) s).1
+    opened true s = second (does (sends (0xF0 ∷ [])) s).0 (does (sends (0xF0 ∷ [])) s).1 (does_carried (sends (0xF0 ∷ [])) s)
     opened false s = (refl, refl)
 
-    first : (s : Counting) (r : Result Bool RigFault) → Numbered e (onwards Rig s r (λ b s. reset w e b s))
-    first s (Ok b) = opened b s
-    first s (Err x) = tt
+    first : (s : Counting) (r : Result Bool RigFault) → Carried s r → Numbered e (onwards Rig s r (λ b s. reset w e b s))
+    first s (Ok b) c = opened b s
+    first s (Err x) c = c
 
 -- the loop: what is left from here is the whole from the start
 abbrev pub Left : ℕ → Counting → ℕ → Counting → ℕ → List ℕ → ℕ → Type 0
@@ -186,15 +187,15 @@ left_start room d l = ap (λ p. run d.steps p d.rig) (sym (path_any room 1 [] []
 abbrev pub Untouched : Counting → Counting → List ℕ → List ℕ → Type 0
 Untouched d0 d l0 l = any_busy d0.rig.line ≡ true → (d ≡ d0) × (l ≡ l0)
 
-busy_pass : (w e : ℕ) (d : Counting) → any_busy d.rig.line ≡ true → (pass_told w e d).1 ≡ Err (Rig LineBusy)
+busy_pass : (w e : ℕ) (d : Counting) → any_busy d.rig.line ≡ true → (pass_told w e d).1 ≡ Err (Rig (LineBusy d.steps))
 busy_pass w e d b =
     ap (λ t. t.1) (pass_as w e d)
-    ∙ ap (λ t. (onward_by Rig (elim t as (λ _. Counting × Result Bool RigFault) [ true ↦ (d, Err LineBusy) | false ↦ (record { rig = (pulse reset_pulse d.rig).0; steps = counted d.steps }, Ok (pulse reset_pulse d.rig).1) ]) (λ b s. reset w e b s)).1) b
+    ∙ ap (λ t. (onward_by Rig (elim t as (λ _. Counting × Result Bool RigFault) [ true ↦ (d, Err (LineBusy d.steps)) | false ↦ (record { rig = (pulse reset_pulse d.rig).0; steps = counted d.steps }, Ok (pulse reset_pulse d.rig).1) ]) (λ b s. reset w e b s)).1) b
 
 pub untouched_more : (w e : ℕ) (d0 d d' : Counting) (p : Pass) (l0 l l' : List ℕ) → Untouched d0 d l0 l → (d', Ok p) ≡ pass_told w e d → Untouched d0 d' l0 l'
 untouched_more w e d0 d d' p l0 l l' u q b =
     let h : any_busy d.rig.line ≡ true = ap (λ d. any_busy d.rig.line) (u b).0 ∙ b in
-    let z : ◌≡◌ {A = Result Pass ExchangeFault} (Ok p) (Err (Rig LineBusy)) = ap (λ t. t.1) q ∙ busy_pass w e d h in
+    let z : ◌≡◌ {A = Result Pass ExchangeFault} (Ok p) (Err (Rig (LineBusy d.steps))) = ap (λ t. t.1) q ∙ busy_pass w e d h in
     let y : ◌≡◌ {A = ℕ} 0 1 = cc in absurd (omega arith)
 
 module _ (room : ℕ) (d0 : Counting) (i n w : ℕ) (d : Counting) (l l0 : List ℕ) (inv : Left room d0 i d w l (suc n)) where
@@ -223,7 +224,12 @@ module _ (room : ℕ) (d0 : Counting) (i n w : ℕ) (d : Counting) (l l0 : List 
     }
 
   pub left_fails : {d' : Counting} (f : ExchangeFault) → (d', Err f) ≡ pass_told w (i + 1) d → drop i l ≡ drop i l0 → Untouched d0 d l0 l → Searched room d0 d' l0 l (Err (InExchange f))
-  left_fails (Rig LineBusy) e k u = record { so = sym (passed_by e); later = (u (busy_first d0.steps room 1 [] [] d0.rig (ap (λ t. t.got) (passed_by e)))).1; begun = tt; counts = tt }
+  left_fails (Rig (LineBusy s)) e k u = record {
+    so = sym (passed_by e);
+    later = (u (busy_first d0.steps room 1 [] [] d0.rig (ap (λ t. t.got) (passed_by e)))).1;
+    begun = tt;
+    counts = subst (Numbered (i + 1)) (sym e) (numbered w (i + 1) d);
+  }
   left_fails {d'} (Failed error x s) e k u =
       let own : (x ≡ i + 1) × (s ≡ d'.steps) = subst (Numbered (i + 1)) (sym e) (numbered w (i + 1) d) in
       let num : x ≡ i + 1 = own.0 in

@@ -273,17 +273,19 @@ busy_unchanged r places e steps found q = go (cases_le places 0)
     job : Job Out
     job = passes (room_of places) 1 [] []
 
-    begun : (n : places ≡ 0 → ⊥) → any_busy r.line ≡ true → ((search_call places r).0 ≡ r) × (any_busy r.line ≡ true) × (found ≡ [])
+    begun : (n : places ≡ 0 → ⊥) → any_busy r.line ≡ true → ((search_call places r).0 ≡ r) × (any_busy r.line ≡ true) × (found ≡ []) × (e ≡ 0) × (steps ≡ 0)
     begun n b =
         let w : ◌≡◌ {A = Answer} (search_call places r) (r, (refused_as 3 0 0, [])) = sym (search_busy places r n b) in
-        (ap (λ (a : Answer). a.0) w, b, ap (λ (p : Report ℕ × List ℕ). p.1) (sym q) ∙ ap (λ (a : Answer). a.1.1) w)
+        let u : ◌≡◌ {A = Report ℕ} (refused_as 3 0 0) (refused_as 3 e steps) = ap (λ (a : Answer). a.1.0) (sym w) ∙ ap (λ (p : Report ℕ × List ℕ). p.0) q in
+        let at : 0 ≡ e = cc in let after : 0 ≡ steps = cc in
+        (ap (λ (a : Answer). a.0) w, b, ap (λ (p : Report ℕ × List ℕ). p.1) (sym q) ∙ ap (λ (a : Answer). a.1.1) w, sym at, sym after)
 
     triplet_of : (n : places ≡ 0 → ⊥) → (run 0 job r).got ≡ line_busy
     triplet_of n =
         only_busy (run 0 job r).got (run 0 job r).steps e steps found (leaves_run NotRefused 0 job r (never_three (room_of places) 1 [] []))
         (sym (ap (λ (a : Answer). a.1) (searched places r n)) ∙ q)
 
-    go : (places ≤ 0) ⊎ (0 < places) → ((search_call places r).0 ≡ r) × (any_busy r.line ≡ true) × (found ≡ [])
+    go : (places ≤ 0) ⊎ (0 < places) → ((search_call places r).0 ≡ r) × (any_busy r.line ≡ true) × (found ≡ []) × (e ≡ 0) × (steps ≡ 0)
     go (inl h) =
         let z : places ≡ 0 = omega arith in
         let u : ◌≡◌ {A = Answer} (search_call places r) (r, (refused_as 9 0 0, [])) = ap (λ p. search_call p r) z in
@@ -346,4 +348,4 @@ search_bound r places m = (sequence r.line, in_sequence r.line s, go (cases_le p
     go (inr h) false b =
         subst (Bounded n) (sym (searched places r (λ z. omega arith)))
         (bounded_got (sequence r.line) (run 0 (passes (room_of places) 1 [] []) r).steps (run 0 (passes (room_of places) 1 [] []) r).got (keeps r places (λ z. omega arith) s b)
-        (leaves_at Takes 0 (passes (room_of places) 1 [] []) r (at-passes (room_of places) 0 [] [] (let h : room_of places ≤ 64 = room_most places in omega arith))))
+        (leaves_at Takes 0 (passes (room_of places) 1 [] []) r (at-passes (room_of places) 0 [] [] (let h : room_of places ≤ most_places = room_most places in omega arith))))

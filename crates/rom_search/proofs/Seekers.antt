@@ -4,7 +4,8 @@ use mathlib.Core.Bool.{and-true}
 use Rattle.std.proofs.lemmas.Bool.{true≢false, cases_lt}
 use Rattle.base.specs.Bits.{same, bits_of}
 use Rattle.base.proofs.Choice.{pick}
-use Rattle.memory.specs.Memories.{Memory, padded, protocols}
+use Rattle.memory.specs.Memories.{Memory, protocols}
+use Rattle.memory.proofs.Calm.{begun_free}
 use Rattle.chip.specs.Chips.{on, SearchPart, rom_bit, complement, direction, idle, searching, after_agreed}
 use Rattle.chip.specs.ChipStates.{ChipState, made_chip, has_power, is_busy, take_bit}
 use Rattle.line.specs.Lines.{pull, any_busy}
@@ -122,8 +123,8 @@ here [] = []
 here (c ∷ cs) = bits_on (has_power c) c.number (here cs)
 
 standing : (x : ℕ) (m : Memory) (rc : Bool) (bs : List Bool) → (has_power (chip_at rom_bit x m rc bs) ≡ true) × (is_busy (chip_at rom_bit x m rc bs) ≡ false) × ((chip_at rom_bit x m rc bs).number ≡ x)
-standing x (padded p) rc [] = (refl, refl, refl)
-standing x (padded p) rc (b ∷ bs) = (refl, refl, refl)
+standing x m rc [] = (refl, begun_free m, refl)
+standing x m rc (b ∷ bs) = (refl, refl, refl)
 
 pub busy_any : (D : List Seeker) → any_busy (line_at rom_bit D) ≡ false
 busy_any [] = refl

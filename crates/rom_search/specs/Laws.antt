@@ -69,7 +69,7 @@ SearchComplete =
 abbrev pub BusyUnchanged : Type 0
 BusyUnchanged =
     (r : RigState) (places e steps : ℕ) (found : List ℕ) → (search_call places r).1 ≡ (refused_as 3 e steps, found)
-    → ((search_call places r).0 ≡ r) × (any_busy r.line ≡ true) × (found ≡ [])
+    → ((search_call places r).0 ≡ r) × (any_busy r.line ≡ true) × (found ≡ []) × (e ≡ 0) × (steps ≡ 0)
 
 -- a search changes no tag's bytes
 abbrev pub BytesStay : Type 0

@@ -5,7 +5,7 @@ use Rattle.wire.specs.Jobs.{Said, good, bad, Report, answered, refused_as}
 use Rattle.rom_search.specs.Searches.{passes}
 use Rattle.rig.specs.RigModel.{Counting}
 use Rattle.rig.specs.declared.rig_fault.RigFault.TheVariants.{LineBusy}
-use Rattle.wire.specs.Exchanges.{error_code, fault_report, Tallies}
+use Rattle.wire.specs.Exchanges.{error_code, fault_report, fault_count, Tallies}
 use Rattle.wire.specs.declared.exchange_fault.ExchangeFault.TheVariants.{Rig, Failed}
 use Rattle.rom_search.specs.declared.search_fault.SearchFault.{SearchFault}
 use Rattle.rom_search.specs.declared.search_fault.SearchFault.TheVariants.{NoPlace, Full, Exchange as InExchange}
@@ -15,7 +15,7 @@ abbrev pub search_end : Counting → Result (ℕ × ℕ) SearchFault → List �
 search_end d (Ok a) l = record { rig = d.rig; steps = a.1; got = done (good a.0, take a.0 l) }
 search_end d (Err NoPlace) l = record { rig = d.rig; steps = 0; got = done (bad 9 0, []) }
 search_end d (Err (Full p s)) l = record { rig = d.rig; steps = s; got = done (bad 9 p, take p l) }
-search_end d (Err (InExchange (Rig LineBusy))) l = record { rig = d.rig; steps = d.steps; got = line_busy }
+search_end d (Err (InExchange (Rig (LineBusy s)))) l = record { rig = d.rig; steps = s; got = line_busy }
 search_end d (Err (InExchange (Failed error e s))) l = record { rig = d.rig; steps = s; got = done (bad (error_code error) e, take (e - 1) l) }
 
 -- later places stay; all of them where the line was busy
@@ -45,8 +45,7 @@ abbrev pub search_count : ℕ → Result (ℕ × ℕ) SearchFault → ℕ
 search_count n (Ok a) = a.1
 search_count n (Err NoPlace) = n
 search_count n (Err (Full p s)) = s
-search_count n (Err (InExchange (Rig f))) = n
-search_count n (Err (InExchange (Failed error e s))) = s
+search_count n (Err (InExchange f)) = fault_count n f
 
 pub record Searched (room : ℕ) (d d' : Counting) (l l' : List ℕ) (r : Result (ℕ × ℕ) SearchFault) : Type 0 where
   pub so : search_end d' r l' ≡ run d.steps (passes room 1 [] []) d.rig

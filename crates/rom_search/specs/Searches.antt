@@ -64,7 +64,7 @@ room_of places = min places most_places
 -- the answer with the numbers in the first places
 abbrev pub listed : Got (Said ℕ × List ℕ) → ℕ → Report ℕ × List ℕ
 listed (done s) n = (report_of (done s.0) n, s.1)
-listed line_busy n = (refused_as 3 0 0, [])
+listed line_busy n = (refused_as 3 0 n, [])
 
 -- no place is refused with 9, before any step
 abbrev pub search_call : ℕ → RigState → RigState × (Report ℕ × List ℕ)

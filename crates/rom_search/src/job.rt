@@ -1,14 +1,14 @@
 ghost use Rattle.std.specs.Prelude.{◌≡◌, ◌≤◌, ◌↔◌, map, length, IsErrOf};
 ghost use Rattle.chip.specs.ChipStates.{bytes_of};
 ghost use Rattle.rig.specs.RigModel.{counting, rig_of};
-ghost use Rattle.rom_search.specs.Searches.{search_call, room_of};
+ghost use Rattle.rom_search.specs.Searches.{search_call, most_places, room_of};
 ghost use Rattle.rom_search.specs.Laws.{SearchComplete, BusyUnchanged, SearchSteps, AbsentSteps, SearchBound};
 ghost use Rattle.rom_search.specs.SearchOutcomes.{Searched, search_answer, search_count, Later};
 
-use crate::search_fault::SearchFault;
 use crate::pass::make_pass;
-use line::line::Line;
-use rig::rig::Rig;
+use crate::search_fault::SearchFault;
+use line::Line;
+use rig::Rig;
 use wire::opening::begin_job;
 
 // At most so many numbers are found.
@@ -21,11 +21,10 @@ fn list_numbers<L: Line>(
     places: &mut [u64],
     room: u8,
 ) -> Result<(u8, u32), SearchFault>
-    requires { (room ≤ length places.old) × (room ≤ 64) }
+    requires { (room ≤ length places.old) × (room ≤ most_places) }
     ensures { Searched room (counting L.chips rig.old) (counting L.chips rig.new) places.old places.new result }
 {
     let mut path = 0;
-    // By number: `enumerate` would count in `usize` what is told as a byte.
     for i in 0..room {
         let pass = make_pass(rig, path, i + 1)?;
         places[i as usize] = pass.number;
@@ -40,7 +39,7 @@ fn list_numbers<L: Line>(
     })
 }
 
-// Lists the numbers of the powered chips, at most 64, in the lent places, since nothing is allocated; answers their count and the steps made.
+// Lists the numbers of the powered chips, at most `MOST_PLACES`, in the lent places, since nothing is allocated; answers their count and the steps made.
 pub fn search_rom<L: Line>(rig: &mut Rig<L>, places: &mut [u64]) -> Result<(u8, u32), SearchFault>
     ensures told { (rig_of L.chips rig.new, search_answer result places.new) ≡ search_call (length places.old) (rig_of L.chips rig.old) }
     ensures counted { (counting L.chips rig.new).steps ≡ search_count (counting L.chips rig.old).steps result }
@@ -61,7 +60,7 @@ pub fn search_rom<L: Line>(rig: &mut Rig<L>, places: &mut [u64]) -> Result<(u8, 
     list_numbers(rig, places, room)
 }
 
-// At most 64 places are used.
+// At most `MOST_PLACES` places are used.
 fn room_of(count: usize) -> u8
     ensures { result ≡ room_of count }
 {

@@ -5,3 +5,5 @@ pub mod job;
 pub mod pass;
 pub mod search_fault;
 pub mod triplets;
+
+pub use search_fault::SearchFault;

@@ -3,12 +3,12 @@ ghost use Rattle.rig.specs.RigModel.{counting};
 ghost use Rattle.rom_search.specs.Passes.{pass_told};
 
 use crate::triplets::{Pass, follow_path};
-use chip::rom_command::RomCommand;
-use line::line::Line;
-use rig::rig::Rig;
+use chip::RomCommand;
+use line::Line;
+use rig::Rig;
 use wire::bytes::send_byte;
-use wire::exchange_fault::{ExchangeFault, ExchangeError};
 use wire::opening::expect_presence;
+use wire::{ExchangeError, ExchangeFault};
 
 // One pass along a path: reset with presence, F0h and 64 triples. Its number is that of an exchange, which a fault carries.
 pub fn make_pass<L: Line>(rig: &mut Rig<L>, path: u64, exchange: u8) -> Result<Pass, ExchangeFault>

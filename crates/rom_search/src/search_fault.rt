@@ -4,8 +4,8 @@ ghost use Rattle.wire.specs.Jobs.{Report};
 ghost use Rattle.rom_search.specs.SearchOutcomes.{search_answer};
 ghost use Rattle.rom_search.specs.declared.search_fault.SearchFault.TheVariants.{Exchange};
 
-use base::refusal::Refusal;
-use wire::exchange_fault::{ExchangeFault, Refused};
+use base::Refusal;
+use wire::{ExchangeFault, Refused};
 
 // Why a search was refused or failed; the passes are counted as exchanges are.
 #[derive(Clone, Copy, Debug, PartialEq, Eq)]
@@ -15,7 +15,6 @@ pub enum SearchFault {
     Exchange(ExchangeFault),
 }
 
-// No trait shared with the other jobs' faults: each tells a report of another type.
 impl SearchFault {
     // The refusal, the pass and the steps made.
     pub fn refused(&self) -> Refused

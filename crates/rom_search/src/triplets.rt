@@ -5,9 +5,8 @@ ghost use Rattle.wire.specs.Outcomes.{does};
 ghost use Rattle.rom_search.specs.Triplets.{triplets_along, triplet_of, direction_taken, after_triplet};
 
 use base::shift_in::ShiftIn;
-use line::line::Line;
-use rig::rig_fault::RigFault;
-use rig::rig::Rig;
+use line::Line;
+use rig::{Rig, RigFault};
 
 // What a pass met: a number, and the path of the next pass, unless none is open.
 #[derive(Clone, Copy, Debug, PartialEq, Eq)]
@@ -16,7 +15,7 @@ pub struct Pass {
     pub next: Option<u64>,
 }
 
-// The bits that are there at a place, of the numbers that still listen.
+// The bits that are there, of the numbers that still listen.
 #[derive(Clone, Copy, Debug, PartialEq, Eq)]
 enum Triplet {
     Only(bool),
@@ -56,7 +55,7 @@ impl PassState {
         }
     }
 
-    // The next path turns at the last place where 0 was taken and 1 was there too.
+    // The next path turns at the last bit where 0 was taken and 1 was there too.
     fn take(self, triplet: Triplet, bit: bool) -> PassState
         ensures { result ≡ after_triplet self triplet bit }
     {

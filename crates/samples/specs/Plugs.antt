@@ -8,7 +8,7 @@ use Rattle.chip.specs.ChipModel.{model as chip_model}
 use Rattle.memory.specs.Memories.{padded}
 use Rattle.memory.specs.ScratchpadModel.{model}
 use Rattle.memory.specs.declared.scratchpad_memory.ScratchpadMemory.{ScratchpadMemory}
-use Rattle.line.specs.declared.ends.OneTag.{OneTag}
+use Rattle.line.specs.declared.one_tag.OneTag.{OneTag}
 use Rattle.kinds.specs.declared.practice_plug.PracticePlug.{PracticePlug}
 use Rattle.line.specs.TagMaking.{made_tag}
 

@@ -1,8 +1,8 @@
 ghost use Rattle.std.specs.Prelude.{◌≡◌};
 ghost use Rattle.samples.specs.declared.fault.SampleFault.TheVariants.{NoNumber, NoTag};
 
-use kinds::image_fault::ImageFault;
 use base::registration_number::RegistrationNumberFault;
+use kinds::ImageFault;
 use std::error::Error;
 use std::fmt;
 

@@ -2,7 +2,7 @@ ghost use Rattle.std.specs.Prelude.{◌≡◌, true, false, IfOk, IfErr};
 ghost use Rattle.base.specs.RegistrationNumbers.{checks};
 
 use crate::fault::SampleFault;
-use base::registration_number::RegistrationNumber;
+use base::RegistrationNumber;
 
 // The number of the gearbox tag: family code 2Dh, a serial number and the right check byte; and the same with a wrong one.
 pub const GEARBOX: u64 = 0x6101_0000_0036_472D;

@@ -4,12 +4,12 @@ ghost use Rattle.base.specs.RegistrationNumbers.{IsChecked};
 ghost use Rattle.samples.specs.Plugs.{plug_word, plug_chip, chip_of};
 
 use crate::fault::SampleFault;
-use line::line_array::LineArray;
 use crate::tags::{Tag, tag_of};
-use base::registration_number::RegistrationNumber;
-use kinds::practice_plug::PracticePlug;
-use std::array;
+use base::RegistrationNumber;
 use base::crc::crc8;
+use kinds::PracticePlug;
+use line::LineArray;
+use std::array;
 
 pub type Plug = Tag<PracticePlug>;
 

@@ -1,5 +1,5 @@
 use std::fmt;
-use wire::exchange_fault::Refused;
+use wire::Refused;
 
 // A job's refusal in words, with what its exchanges are called.
 #[derive(Clone, Copy)]

@@ -5,18 +5,21 @@ ghost use Rattle.memory.specs.ScratchpadModel.{model};
 ghost use Rattle.line.specs.TagMaking.{made_tag};
 
 use crate::fault::SampleFault;
-use kinds::kind::Kind;
-use line::ends::OneTag;
-use base::registration_number::RegistrationNumber;
-use memory::scratchpad_memory::ScratchpadMemory;
-use std::array;
+use base::RegistrationNumber;
+use kinds::Kind;
+use line::OneTag;
 use line::tag_making::make_tag;
+use memory::ScratchpadMemory;
+use std::array;
 
 // A tag with the scratchpad protocol, which is a line of one chip.
 pub type Tag<K> = OneTag<ScratchpadMemory<K>>;
 
 // A tag of any kind from its number and its image, without power.
-pub fn tag_of<K: Kind + Drop>(number: RegistrationNumber, image: &[u8]) -> Result<Tag<K>, SampleFault>
+pub fn tag_of<K: Kind + Drop>(
+    number: RegistrationNumber,
+    image: &[u8],
+) -> Result<Tag<K>, SampleFault>
     ensures made { IfOk result (λ t. chip_of (λ p. padded (model K.rules K.bytes p)) t.chip ≡ made_tag K.rules number.word image.now) }
     ensures ok { IsOk result ↔ (length image.now ≡ K.rules.image) }
     ensures err { IfErr result (λ e. e ≡ SampleFault.NoTag) }

@@ -1,7 +1,7 @@
 #![tactic(auto)]
 
 use letters::stream::answer_all;
-use rig::rig::Rig;
+use rig::Rig;
 use samples::numbers::plug_number;
 use samples::plugs::Plug;
 use samples::tags::tag_of;

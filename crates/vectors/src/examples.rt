@@ -1,15 +1,13 @@
 #[cfg(test)]
 mod tests {
-    use kinds::kind::Kind;
+    use base::crc::{crc8, crc16};
+    use kinds::{Kind, PracticePlug, SealedTag};
     use letters::script::play_letters;
-    use kinds::practice_plug::PracticePlug;
-    use rig::rig::Rig;
+    use rig::Rig;
     use samples::fault::SampleFault;
     use samples::numbers::{number_of, plug_number};
     use samples::tags::tag_of;
-    use kinds::sealed_tag::SealedTag;
     use std::test::Fail;
-    use base::crc::{crc8, crc16};
 
     // The published check values of CRC-8/MAXIM-DOW and CRC-16/ARC, and a worked registration number.
     #[test]

@@ -1,8 +1,8 @@
 #[cfg(test)]
 mod tests {
+    use kinds::PracticePlug;
     use letters::stream::answer_all;
-    use kinds::practice_plug::PracticePlug;
-    use rig::rig::Rig;
+    use rig::Rig;
     use samples::numbers::plug_number;
     use samples::plugs::Plug;
     use samples::tags::tag_of;

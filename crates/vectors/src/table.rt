@@ -1,7 +1,7 @@
-use std::io::{BufRead, BufReader};
 use base::crc::{crc8, crc16};
+use std::io::{BufRead, BufReader};
 
-// The value of a hexadecimal digit. No plainer by `char::to_digit(16)`: it takes lower-case letters too, which would be tested for beside it.
+// The value of a hexadecimal digit. Letters are upper case.
 pub fn digit(letter: u8) -> Option<u8> {
     match letter {
         b'0'..=b'9' => Some(letter - b'0'),

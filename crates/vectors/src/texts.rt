@@ -1,11 +1,11 @@
 #[cfg(test)]
 mod tests {
-    use base::refusal::Refusal;
+    use base::Refusal;
     use samples::fault::SampleFault;
     use samples::hex::Hex;
     use samples::refused::RefusedAt;
     use std::test::Fail;
-    use wire::exchange_fault::Refused;
+    use wire::Refused;
 
     #[test]
     fn bytes_in_hex(rt: HostRuntime) -> Result<(), Fail> {

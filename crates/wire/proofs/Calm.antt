@@ -1,12 +1,11 @@
 -- Jobs without a dwell: they change no byte; and when no pulse of a job is refused.
-use Rattle.std.proofs.Common.{◌≡◌, ℕ, zero, suc, Bool, true, false, ◌&&◌, ◌||◌, leb, List, [], ◌∷◌, ◌++◌, map, sym, refl, ap, ◌∙◌, subst, ap₂}
+use Rattle.std.proofs.Common.{◌≡◌, ℕ, zero, suc, Bool, true, false, ◌&&◌, ◌||◌, List, [], ◌∷◌, ◌++◌, map, sym, refl, ap, ◌∙◌, subst, ap₂}
 use mathlib.Core.Bool.{and-true}
 use Rattle.std.proofs.lemmas.Bool.{or_parts}
-use Rattle.base.specs.Bits.{bits_of, bits_all, value, full}
+use Rattle.base.specs.Bits.{bits_of, bits_all, value}
 use Rattle.base.specs.RegistrationNumbers.{word_bytes}
-use Rattle.kinds.specs.Kinds.{Rules}
-use Rattle.memory.specs.Scratchpads.{Regs, Awaited, command, load_low, load_high, load_data, copy_low, copy_high, copy_status, read_low, read_high, Doing, idle, programming, taking, sending, alternating, Work, run_command, command_of, take_doing, is_programming, Padded}
-use Rattle.memory.specs.Memories.{Memory, padded, take_memory, programming_memory}
+use Rattle.memory.specs.Memories.{Memory}
+use Rattle.memory.proofs.Calm.{CalmMemory, Harmless, command_heard}
 use Rattle.chip.specs.Chips.{Live, off, selected, matching, searching}
 use Rattle.chip.specs.Chips.{on as under, idle as resting, sending as saying, command as ordering}
 use Rattle.chip.specs.ChipStates.{ChipState, bytes_of, is_busy, take_bit, reset_chip, cut_chip, takes, opened_as}
@@ -316,28 +315,7 @@ module _ (D Q P : List ChipState → Type 0) (offs : (l : List ChipState) → Al
 pub freed_run : (D : List ChipState → Type 0) {A : Type 0} (n : ℕ) (p : Job A) (l : List ChipState) (f : FuseState) → Freed D p l → Free (run n p (record { line = l; fuse = f })).rig.line
 freed_run D n p l f u = (meets_run D Free Anyhow busy_line (λ p l h u. tt) (λ p m l h u. tt) n p l f u tt).0
 
--- a chip that no bits can bring to program: quiet, sending, taking what 0Fh takes, or the address of F0h
-abbrev CalmAwaited : Awaited → Type 0
-CalmAwaited command = ⊥
-CalmAwaited load_low = Unit {0}
-CalmAwaited load_high = Unit {0}
-CalmAwaited (load_data k sum) = Unit {0}
-CalmAwaited copy_low = ⊥
-CalmAwaited (copy_high x) = ⊥
-CalmAwaited (copy_status x y) = ⊥
-CalmAwaited read_low = Unit {0}
-CalmAwaited (read_high x) = Unit {0}
-
-abbrev CalmDoing : Doing → Type 0
-CalmDoing idle = Unit {0}
-CalmDoing programming = ⊥
-CalmDoing (taking w bs) = CalmAwaited w
-CalmDoing (sending bs) = Unit {0}
-CalmDoing (alternating x) = Unit {0}
-
-abbrev pub CalmMemory : Memory → Type 0
-CalmMemory (padded p) = CalmDoing p.work.doing
-
+-- a chip that no bits can bring to program
 abbrev CalmIn : Live → Memory → Type 0
 CalmIn off m = Unit {0}
 CalmIn (under rc resting) m = Unit {0}
@@ -354,40 +332,6 @@ abbrev pub CalmAll : List ChipState → Type 0
 CalmAll [] = Unit {0}
 CalmAll (c ∷ cs) = CalmChip c × CalmAll cs
 
-abbrev CalmWork : Work → Type 0
-CalmWork w = CalmDoing w.doing
-
-calm_taking : (p : Padded) (b : Bool) → CalmDoing p.work.doing → CalmMemory (take_memory (padded p) b)
-calm_taking p b h = go p.work.doing h
-  where
-    go : (d : Doing) → CalmDoing d → CalmWork (take_doing p.rules p.bytes b p.work.regs d)
-    go idle h = tt
-    go programming h = absurd h
-    go (taking command bs) h = absurd h
-    go (taking load_low bs) h = pick (full (bs ++ (b ∷ []))) CalmWork tt tt
-    go (taking load_high bs) h = pick (full (bs ++ (b ∷ []))) CalmWork tt tt
-    go (taking (load_data k sum) bs) h = pick (full (bs ++ (b ∷ []))) CalmWork (pick (leb 7 k) CalmWork tt tt) tt
-    go (taking copy_low bs) h = absurd h
-    go (taking (copy_high x) bs) h = absurd h
-    go (taking (copy_status x y) bs) h = absurd h
-    go (taking read_low bs) h = pick (full (bs ++ (b ∷ []))) CalmWork tt tt
-    go (taking (read_high x) bs) h = pick (full (bs ++ (b ∷ []))) CalmWork tt tt
-    go (sending bs) h = tt
-    go (alternating x) h = tt
-
-calm_memory : (m : Memory) (b : Bool) → CalmMemory m → CalmMemory (take_memory m b)
-calm_memory (padded p) b h = calm_taking p b h
-
-calm_programs : (m : Memory) → CalmMemory m → programming_memory m ≡ false
-calm_programs (padded p) h = go p.work.doing h
-  where
-    go : (d : Doing) → CalmDoing d → is_programming d ≡ false
-    go idle h = refl
-    go programming h = absurd h
-    go (taking w bs) h = refl
-    go (sending bs) h = refl
-    go (alternating x) h = refl
-
 module _ (x : ℕ) (m : Memory) where
   abbrev with : Live → ChipState
   with l = record { number = x; live = l; memory = m }
@@ -399,7 +343,7 @@ module _ (x : ℕ) (m : Memory) where
   calm_live b (under rc (saying bs)) h = absurd h
   calm_live b (under rc (matching bs)) h = absurd h
   calm_live b (under rc (searching t bs)) h = absurd h
-  calm_live b (under rc selected) h = (calm_memory m b h, calm_programs m h)
+  calm_live b (under rc selected) h = (λ bs. h (b ∷ bs), h [])
 
 calm : (b : Bool) (c : ChipState) → CalmChip c → CalmChip (take_bit b c) × (is_busy c ≡ false)
 calm b c h = calm_live c.number c.memory b c.live h
@@ -477,10 +421,6 @@ module _ (D : List ChipState → Type 0) where
       → ((l' : List ChipState) → any_busy l' ≡ false → Freed D nope l') → ((l' : List ChipState) → BegunAll l' → Freed D k l') → Freed D (step reset_pulse (after_opening x k nope)) l
   freed_opening x k nope l e un uk = opening_at x k nope l e un (uk (map (takes (bits_of 8 0x55 ++ bits_of 64 x)) (map reset_chip l)))
 
--- a command that leads to sending or to the address of F0h
-abbrev pub Harmless : ℕ → Type 0
-Harmless b = (K : Rules) (m : List ℕ) (r : Regs) → CalmWork (run_command K m (command_of (value (bits_of 8 b))) r)
-
 -- bits that every chip hears once an exchange has begun
 module _ (bs : List Bool) (heard : (x : ℕ) (m : Memory) → Hears bs (listening x m)) where
   hears_as : (x : ℕ) (m : Memory) (l : Live) (t : Bool) → Hears bs (opened_as l t (record { number = x; live = l; memory = m }))
@@ -505,15 +445,9 @@ module _ (f : ChipState → ChipState) (unpowered : (x : ℕ) (m : Memory) → C
   begun_calm (d ∷ ds) h = (subst (λ c. CalmChip (f c)) (sym h.0.2) (calm_as h.0.0.number h.0.0.memory h.0.0.live h.0.1), begun_calm ds h.1)
 
 module _ (b : ℕ) where
-  listening_hears : (x : ℕ) (m : Memory) → Hears (bits_of 8 b) (listening x m)
-  listening_hears x (padded p) = (refl, refl, (refl, refl, (refl, refl, (refl, refl, (refl, refl, (refl, refl, (refl, refl, (refl, refl, tt))))))))
-
-  listening_calm : Harmless b → (x : ℕ) (m : Memory) → CalmChip (takes (bits_of 8 b) (listening x m))
-  listening_calm h x (padded p) = h p.rules p.bytes p.work.regs
-
   pub command_hears : (l : List ChipState) → BegunAll l → HearsAll (bits_of 8 b) l
-  command_hears = begun_hear (bits_of 8 b) listening_hears
+  command_hears = begun_hear (bits_of 8 b) (λ x m. command_heard b m)
 
   pub command_calm : Harmless b → (l : List ChipState) → BegunAll l → CalmAll (map (takes (bits_of 8 b)) l)
   command_calm h =
-      begun_calm (takes (bits_of 8 b)) (λ x m. subst CalmChip (sym (takes-off x m (bits_of 8 b))) tt) (listening_calm h) (λ x m. subst CalmChip (sym (takes-idle x m (bits_of 8 b) false)) tt)
+      begun_calm (takes (bits_of 8 b)) (λ x m. subst CalmChip (sym (takes-off x m (bits_of 8 b))) tt) (λ x m. h m) (λ x m. subst CalmChip (sym (takes-idle x m (bits_of 8 b) false)) tt)

@@ -26,11 +26,11 @@ bytes_bind (suc n) f k =
 -- what comes after an outcome
 abbrev pub past : {A B : Type 0} → Counting → Result A RigFault → (A → Counting → Ran B) → Ran B
 past d (Ok a) rest = rest a d
-past d (Err LineBusy) rest = record { rig = d.rig; steps = d.steps; got = line_busy }
+past d (Err (LineBusy s)) rest = record { rig = d.rig; steps = s; got = line_busy }
 
 abbrev pub follow : {A B : Type 0} → (A → Job B) → (ExchangeError → ℕ → Job B) → Counting → Result A ExchangeFault → Ran B
 follow good bad d (Ok a) = run d.steps (good a) d.rig
-follow good bad d (Err (Rig LineBusy)) = record { rig = d.rig; steps = d.steps; got = line_busy }
+follow good bad d (Err (Rig (LineBusy s))) = record { rig = d.rig; steps = s; got = line_busy }
 follow good bad d (Err (Failed error e s)) = run s (bad error e) d.rig
 
 pub run_step : {B : Type 0} (p : Pulse) (k : Bool → Job B) (d : Counting) → run d.steps (step p k) d.rig ≡ past (counted_pulse p d).0 (counted_pulse p d).1 (λ b e. run e.steps (k b) e.rig)
@@ -41,7 +41,7 @@ run_step {B} p k d =
     [ true ↦ refl | false ↦ refl ]
   where
     beaten : Bool → Counting × Result Bool RigFault
-    beaten t = elim t [ true ↦ (d, Err LineBusy) | false ↦ (record { rig = (pulse p d.rig).0; steps = counted d.steps }, Ok (pulse p d.rig).1) ]
+    beaten t = elim t [ true ↦ (d, Err (LineBusy d.steps)) | false ↦ (record { rig = (pulse p d.rig).0; steps = counted d.steps }, Ok (pulse p d.rig).1) ]
 
 pub run_part : {A B : Type 0} (p : Job A) (f : A → Job B) (d : Counting) → run d.steps (bind p f) d.rig ≡ past (does p d).0 (does p d).1 (λ a e. run e.steps (f a) e.rig)
 unfolding does
@@ -70,7 +70,7 @@ module _ {A B : Type 0} (good : A → Job B) (bad : ExchangeError → ℕ → Jo
   past_on : {C : Type 0} (d : Counting) (r : Result C RigFault) (f : C → Counting → Ran B) (rest : C → Counting → Counting × Result A ExchangeFault)
       → ((c : C) (e : Counting) → f c e ≡ ends (rest c e)) → past d r f ≡ ends (onwards Rig d r rest)
   past_on d (Ok c) f rest h = h c d
-  past_on d (Err LineBusy) f rest h = refl
+  past_on d (Err (LineBusy s)) f rest h = refl
 
   keep-on : (d : Counting) (r : Result (Unit {0}) RigFault) (rest : Counting → Counting × Result A ExchangeFault)
       → onwards Rig d r (λ _ e. rest e) ≡ onward keep (onwards Rig d r (λ _ e. fine e)) (λ _ e. rest e)

@@ -1,5 +1,7 @@
 pub mod After
 pub mod Alone
+pub mod Along
+pub mod AtOnce
 pub mod Bind
 pub mod Calm
 pub mod Counts

@@ -1,7 +1,9 @@
 -- The laws of lines that jobs rest on.
 use Rattle.std.proofs.Common.{◌≡◌, ℕ, Bool, true, false, ◌&&◌, ◌||◌, eqb, ◌≢◌, ◌⊎◌, List, [], ◌∷◌, ◌++◌, map, sym, refl, ap, ◌∙◌, subst, ap₂, inl, inr, ne_eqb}
 use Rattle.std.proofs.lemmas.Bool.{true≢false}
-use Rattle.chip.specs.Chips.{Live, off, on, powered}
+use Rattle.memory.specs.Scratchpads.{Padded}
+use Rattle.memory.specs.Memories.{padded, HasScratchpad}
+use Rattle.chip.specs.Chips.{Live, off, on, Phase, powered}
 use Rattle.chip.specs.ChipStates.{ChipState, has_power, cut_chip, opened_as}
 use Rattle.chip.proofs.Sound.{Sound, SoundAll, met_sounds}
 use Rattle.rig.proofs.Unpowered.{off-line_after, off-answer, off-refused, cut_off}
@@ -36,6 +38,20 @@ powered_one x [] vs c nu nv h = go (eqb c.number x) (has_power c) (h')
     go false b q = absurd (true≢false (sym q))
 powered_one x (u ∷ us) vs c nu nv h =
     powered_one x us vs c nu.1 nv (ap (λ a. a && has_power u || powered_in x (us ++ (c ∷ vs))) (sym (ne_eqb u.number x nu.0)) ∙ h)
+
+-- a powered chip with a number and a scratchpad is as the laws of exchanges take it
+pub record Padding (x : ℕ) (c : ChipState) : Type 0 where
+  pub rc : Bool
+  pub phase : Phase
+  pub pad : Padded
+  pub so : c ≡ record { number = x; live = on rc phase; memory = padded pad }
+
+pub padding : (x : ℕ) (c : ChipState) → c.number ≡ x → has_power c ≡ true → HasScratchpad c.memory → Padding x c
+padding x c e p h = go c.live refl p
+  where
+    go : (l : Live) → c.live ≡ l → powered l ≡ true → Padding x c
+    go off q p = absurd (true≢false (sym p))
+    go (on rc ph) q p = record { rc = rc; phase = ph; pad = h.0; so = λ i. record { number = e i; live = q i; memory = h.1 i } }
 
 selects : Selects
 selects x e l m hx b p =

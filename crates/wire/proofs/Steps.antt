@@ -27,7 +27,7 @@ unfolding does
 does-step {A} p k d =
     elim (refused p d.rig.line) as (λ t.
     outcome (elim t as (λ _. Ran A) [ true ↦ record { rig = d.rig; steps = d.steps; got = line_busy } | false ↦ run (counted d.steps) (k (pulse p d.rig).1) (pulse p d.rig).0 ])
-    ≡ onward keep (elim t as (λ _. Counting × Result Bool RigFault) [ true ↦ (d, Err LineBusy) | false ↦ (record { rig = (pulse p d.rig).0; steps = counted d.steps }, Ok (pulse p d.rig).1) ]) (λ b e. does (k b) e))
+    ≡ onward keep (elim t as (λ _. Counting × Result Bool RigFault) [ true ↦ (d, Err (LineBusy d.steps)) | false ↦ (record { rig = (pulse p d.rig).0; steps = counted d.steps }, Ok (pulse p d.rig).1) ]) (λ b e. does (k b) e))
     [ true ↦ refl | false ↦ refl ]
 
 pub does_bind : {A B : Type 0} (p : Job A) (f : A → Job B) (d : Counting) → does (bind p f) d ≡ onward keep (does p d) (λ a e. does (f a) e)

@@ -1,9 +1,9 @@
 -- Exchanges: resets, dwells, bytes sent and bytes read. An exchange is read twice, as the outcome that its code has
 -- and as the pulses that it makes; they agree.
-use Rattle.std.specs.Prelude.{◌≡◌, ℕ, Bool, true, false, cond, List, [], ◌∷◌, Ok, Err, Result}
+use Rattle.std.specs.Prelude.{◌≡◌, ℕ, Bool, true, false, cond, List, [], ◌∷◌, Ok, Err, Result, ◌==◌}
 use Rattle.base.specs.RegistrationNumbers.{word_bytes}
 use Rattle.rig.specs.Rigs.{reset_pulse, dwell_pulse, pulse, counted}
-use Rattle.rig.specs.RigModel.{Counting, CountBegins, counted_pulse, refusal}
+use Rattle.rig.specs.RigModel.{Counting, CountBegins, counted_pulse, refusal, steps_made}
 use Rattle.rig.specs.declared.rig_fault.RigFault.TheVariants.{LineBusy}
 use Rattle.wire.specs.Jobs.{Job, step, send_bytes, read_bytes, Report, refused_as}
 use Rattle.wire.specs.Outcomes.{does, sends, reads, onward, keep}
@@ -21,7 +21,7 @@ error_code Garbled = 6
 
 -- an exchange's fault with its number, its exchange and its steps
 abbrev pub fault_report : {A : Type 0} → ExchangeFault → Report A
-fault_report (Rig f) = refused_as (refusal f) 0 0
+fault_report (Rig f) = refused_as (refusal f) 0 (steps_made f)
 fault_report (Failed error e s) = refused_as (error_code error) e s
 
 -- what a refused job tells, with the number of its refusal
@@ -30,13 +30,18 @@ refused_report r = refused_as (code_of r.refusal) r.exchange r.steps
 
 -- the steps that a fault carries are those that the rig has counted
 abbrev pub Tallies : Counting → ExchangeFault → Type 0
-Tallies d (Rig f) = Unit {0}
+Tallies d (Rig f) = steps_made f ≡ d.steps
 Tallies d (Failed error e s) = s ≡ d.steps
+
+-- what the rig has counted after a job with this fault: the steps that it carries; one refused before any step leaves the count
+abbrev pub fault_count : ℕ → ExchangeFault → ℕ
+fault_count n (Rig f) = cond (steps_made f == 0) n (steps_made f)
+fault_count n (Failed error e s) = s
 
 -- a job begins as its rig says, and a refusal is an exchange's fault
 abbrev pub JobBegins : Counting → Counting → Result (Unit {0}) ExchangeFault → Type 0
 JobBegins d d' (Ok u) = CountBegins d d' (Ok u)
-JobBegins d d' (Err f) = CountBegins d d' (Err LineBusy) × (f ≡ Rig LineBusy)
+JobBegins d d' (Err f) = CountBegins d d' (Err (LineBusy 0)) × (f ≡ Rig (LineBusy 0))
 
 -- a reset that must find a chip, in an exchange of a job
 abbrev pub present : ℕ → Counting → Counting × Result (Unit {0}) ExchangeFault

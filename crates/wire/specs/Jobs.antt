@@ -48,7 +48,7 @@ pub data Said (A : Type 0) : Type 0 where
   good : A → Said A
   bad : ℕ → ℕ → Said A
 
--- what its caller is told, with the steps made; 0 and 0 before any step
+-- what its caller is told, with the steps made; exchange 0 where the rig refused, and before any step
 pub data Report (A : Type 0) : Type 0 where
   answered : A → ℕ → Report A  -- steps
   refused_as : ℕ → ℕ → ℕ → Report A  -- number, exchange, steps
@@ -61,7 +61,7 @@ steps_in (refused_as k e n) = n
 abbrev pub report_of : {A : Type 0} → Got (Said A) → ℕ → Report A
 report_of (done (good a)) n = answered a n
 report_of (done (bad k e)) n = refused_as k e n
-report_of line_busy n = refused_as 3 0 0
+report_of line_busy n = refused_as 3 0 n
 
 abbrev pub reported : {A : Type 0} → Ran (Said A) → RigState × Report A
 reported w = (w.rig, report_of w.got w.steps)

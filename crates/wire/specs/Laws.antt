@@ -1,6 +1,7 @@
 -- Words for laws of jobs: the moments of a job, the tag with a number, its power and its bytes.
 use Rattle.std.specs.Prelude.{◌≡◌, ℕ, zero, suc, Bool, true, false, ◌&&◌, ◌||◌, ◌≢◌, List, [], ◌∷◌, ◌++◌, drop, ◌==◌}
 use Rattle.kinds.specs.Kinds.{row_length}
+use Rattle.memory.specs.Memories.{HasScratchpad}
 use Rattle.chip.specs.ChipStates.{ChipState, has_power}
 use Rattle.rig.specs.Rigs.{RigState, FuseState, none, after, pulse, refused}
 use Rattle.wire.specs.Jobs.{Job, ret, step}
@@ -30,13 +31,14 @@ abbrev pub NoneHas : ℕ → List ChipState → Type 0
 NoneHas x [] = Unit {0}
 NoneHas x (c ∷ cs) = (c.number ≢ x) × NoneHas x cs
 
--- exactly one chip has the number
+-- exactly one chip has the number, and that one has a scratchpad
 pub record Single (x : ℕ) (l : List ChipState) : Type 0 where
   pub before : List ChipState
   pub tag : ChipState
   pub behind : List ChipState
   pub so : l ≡ before ++ (tag ∷ behind)
   pub is : tag.number ≡ x
+  pub pad : HasScratchpad tag.memory
   pub none_before : NoneHas x before
   pub none_behind : NoneHas x behind
 

@@ -7,12 +7,12 @@ use Rattle.rig.specs.RigModel.{Counting}
 use Rattle.rig.specs.declared.rig_fault.RigFault.{RigFault}
 use Rattle.rig.specs.declared.rig_fault.RigFault.TheVariants.{LineBusy}
 
-abbrev pub result_got : {A : Type 0} → Got A → Result A RigFault
-result_got (done a) = Ok a
-result_got line_busy = Err LineBusy
+abbrev pub result_got : {A : Type 0} → ℕ → Got A → Result A RigFault
+result_got n (done a) = Ok a
+result_got n line_busy = Err (LineBusy n)
 
 abbrev pub outcome : {A : Type 0} → Ran A → Counting × Result A RigFault
-outcome w = (record { rig = w.rig; steps = w.steps }, result_got w.got)
+outcome w = (record { rig = w.rig; steps = w.steps }, result_got w.steps w.got)
 
 -- the outcome of a program: the rig with its steps, and the answer
 unfoldable pub does : {A : Type 0} → Job A → Counting → Counting × Result A RigFault

@@ -3,9 +3,8 @@ ghost use Rattle.rig.specs.RigModel.{counting};
 ghost use Rattle.wire.specs.Outcomes.{does, sends, reads, reads_byte};
 
 use base::shift_in::ShiftIn;
-use line::line::Line;
-use rig::rig_fault::RigFault;
-use rig::rig::Rig;
+use line::Line;
+use rig::{Rig, RigFault};
 
 pub fn send_byte<L: Line>(rig: &mut Rig<L>, byte: u8) -> Result<(), RigFault>
     ensures { (counting L.chips rig.new, result) ≡ does (sends (byte ∷ [])) (counting L.chips rig.old) }

@@ -5,10 +5,9 @@ ghost use Rattle.wire.specs.Jobs.{Report};
 ghost use Rattle.wire.specs.Exchanges.{error_code, fault_report, refused_report};
 ghost use Rattle.wire.specs.declared.exchange_fault.ExchangeFault.TheVariants.{Rig, Failed};
 
-use line::line::Line;
-use base::refusal::Refusal;
-use rig::rig_fault::RigFault;
-use rig::rig::Rig;
+use base::Refusal;
+use line::Line;
+use rig::{Rig, RigFault};
 
 // What an exchange found wrong.
 #[derive(Clone, Copy, Debug, PartialEq, Eq)]
@@ -21,7 +20,11 @@ pub enum ExchangeError {
 #[derive(Clone, Copy, Debug, PartialEq, Eq)]
 pub enum ExchangeFault {
     Rig(RigFault),
-    Failed { error: ExchangeError, exchange: u8, steps: u32 },
+    Failed {
+        error: ExchangeError,
+        exchange: u8,
+        steps: u32,
+    },
 }
 
 // What a refused job tells: the refusal, the exchange or pass, and the steps made.
@@ -46,7 +49,7 @@ impl Refused {
     }
 }
 
-// A method, as of every fault: `fault.refusal()` says what is asked of it, and `Refusal::from(fault)` would not.
+// The refusal that it is told as.
 impl ExchangeError {
     pub fn refusal(&self) -> Refusal
         ensures { code_of result ≡ error_code self.now }
@@ -74,7 +77,11 @@ impl ExchangeFault {
         ensures { ◌≡◌ {A = Report (Unit {0})} (refused_report result) (fault_report self.now) }
     {
         match self {
-            ExchangeFault::Rig(fault) => Refused::at_once(fault.refusal()),
+            ExchangeFault::Rig(fault) => Refused {
+                refusal: fault.refusal(),
+                exchange: 0,
+                steps: fault.steps(),
+            },
             ExchangeFault::Failed {
                 error,
                 exchange,

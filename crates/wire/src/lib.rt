@@ -5,3 +5,6 @@ pub mod bytes;
 pub mod exchange_fault;
 pub mod opening;
 pub mod target;
+
+pub use exchange_fault::{ExchangeError, ExchangeFault, Refused};
+pub use target::Target;

@@ -3,11 +3,11 @@ ghost use Rattle.rig.specs.RigModel.{counting};
 ghost use Rattle.wire.specs.Exchanges.{JobBegins, resets_and_matches, present};
 
 use crate::bytes::{send_byte, send_bytes};
-use crate::exchange_fault::{ExchangeFault, ExchangeError};
-use chip::rom_command::RomCommand;
-use line::line::Line;
-use base::registration_number::RegistrationNumber;
-use rig::rig::Rig;
+use crate::exchange_fault::{ExchangeError, ExchangeFault};
+use base::RegistrationNumber;
+use chip::RomCommand;
+use line::Line;
+use rig::Rig;
 
 // A job begins, its steps counted from 0; refusal 3 while the line is busy, with all unchanged.
 pub fn begin_job<L: Line>(rig: &mut Rig<L>) -> Result<(), ExchangeFault>
@@ -28,7 +28,11 @@ pub fn expect_presence<L: Line>(rig: &mut Rig<L>, exchange: u8) -> Result<(), Ex
 }
 
 // Reset with presence, 55h and the number.
-pub fn reset_and_match_rom<L: Line>(rig: &mut Rig<L>, number: RegistrationNumber, exchange: u8) -> Result<(), ExchangeFault>
+pub fn reset_and_match_rom<L: Line>(
+    rig: &mut Rig<L>,
+    number: RegistrationNumber,
+    exchange: u8,
+) -> Result<(), ExchangeFault>
     ensures { (counting L.chips rig.new, result) ≡ resets_and_matches number.word exchange (counting L.chips rig.old) }
 {
     expect_presence(rig, exchange)?;

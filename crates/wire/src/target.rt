@@ -2,8 +2,8 @@ ghost use Rattle.std.specs.Prelude.{◌≡◌, ◌∷◌};
 ghost use Rattle.memory.specs.MemoryCommands.{byte_of};
 ghost use Rattle.base.specs.Crc.{low_high};
 
-use memory::memory_command::MemoryCommand;
-use base::registration_number::RegistrationNumber;
+use base::RegistrationNumber;
+use memory::MemoryCommand;
 
 // A row of the tag with a number.
 #[derive(Clone, Copy)]

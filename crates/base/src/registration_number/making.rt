@@ -4,9 +4,9 @@ ghost use Rattle.base.specs.Refusals.{code_of};
 ghost use Rattle.base.specs.RegistrationNumbers.{IsChecked, checks, making, word_bytes};
 ghost use Rattle.base.specs.NumberMaking.{made_of, refusal};
 
-use crate::registration_number::{RegistrationNumber, RegistrationNumberFault};
-use crate::refusal::Refusal;
 use crate::crc::crc8;
+use crate::refusal::Refusal;
+use crate::registration_number::{RegistrationNumber, RegistrationNumberFault};
 
 // The check byte is the CRC-8 of the seven bytes before it.
 fn right_sum(word: u64) -> bool
@@ -55,7 +55,7 @@ impl RegistrationNumber {
 }
 
 impl RegistrationNumberFault {
-    // A method, as of every fault: `fault.refusal()` says what is asked of it, and `Refusal::from(fault)` would not.
+    // The refusal that it is told as.
     pub fn refusal(&self) -> Refusal
         ensures { code_of result ≡ refusal self.now }
     {

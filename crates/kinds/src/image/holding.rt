@@ -2,8 +2,8 @@ ghost use Rattle.std.specs.Prelude.{◌≡◌};
 ghost use Rattle.kinds.specs.Kinds.{at, program, imaging};
 ghost use Rattle.kinds.specs.ImageMaking.{image_of};
 
-use crate::image_fault::ImageFault;
 use crate::image::Image;
+use crate::image_fault::ImageFault;
 use crate::row::{ROW, blend};
 
 // Refusal 2 where there are not W bytes.
@@ -35,7 +35,6 @@ impl<const W: usize> Image<W> {
         ensures { self.new.bytes ≡ program W row new.now mask self.old.bytes }
     {
         let first = row as usize;
-        // By index: the same one counts in the row, the mask and the image, and the mask's byte by a shift, as its rule says.
         for i in 0..ROW {
             let at = first + i;
             if at < W {

@@ -43,7 +43,7 @@ returns-in_err-begin_job g c =
     let f = c.in_err-begin_job.ensures in
     rw (exits c.from_residual.ensures.1) (rw f.1
     (record {
-      told = ap (λ d. (d.rig, read_report (Err (InExchange (Rig LineBusy))) c.args.into.now)) f.0.1
+      told = ap (λ d. (d.rig, read_report (Err (InExchange (Rig (LineBusy 0)))) c.args.into.now)) f.0.1
           ∙ read_busy c.args.number.word c.args.row (rig_of g.L.Line.chips c.args.rig.now) c.args.into.now c.if-row-ne0.false f.0.0;
       counted = ap (λ d. d.steps) f.0.1;
       kept = λ _. refl;

@@ -39,7 +39,7 @@ returns-in_err-begin_job g c =
     let f = c.in_err-begin_job.ensures in
     rw (exits c.from_residual.ensures.1) (rw f.1
     (record {
-      told = ap (λ d. (d.rig, search_answer (Err (InExchange (Rig LineBusy))) c.args.places.now)) f.0.1
+      told = ap (λ d. (d.rig, search_answer (Err (InExchange (Rig (LineBusy 0)))) c.args.places.now)) f.0.1
           ∙ search_busy (length c.args.places.now) (rig_of g.L.Line.chips c.args.rig.now) c.if-places-eq0.false f.0.0;
       counted = ap (λ d. d.steps) f.0.1;
       later = refl;
