@@ -1,4 +1,4 @@
--- What the code's answers mean: each case with its refusal's number.
+-- What the code's answers mean: each case with its refusal's code.
 use Rattle.std.specs.Prelude.{ℕ, Ok, Err, Result}
 use Rattle.base.specs.RegistrationNumbers.{Made, number, refused}
 use Rattle.base.specs.declared.registration_number.RegistrationNumber.{RegistrationNumber}

@@ -1,4 +1,4 @@
--- The refusals and their numbers.
+-- The refusals and their codes.
 use Rattle.std.specs.Prelude.{ℕ}
 use Rattle.base.specs.declared.refusal.Refusal.{Refusal}
 use Rattle.base.specs.declared.refusal.Refusal.TheVariants.{WrongSum, WrongLength, LineBusy, BadRow, NoPresence, Garbled, DataDiffer, NotHeld, NoPlace}

@@ -23,7 +23,7 @@ IsChecked word = checks word ≡ true
 -- what making a number from a word gives
 pub data Made : Type 0 where
   number : ℕ → Made
-  refused : ℕ → Made  -- with the refusal's number
+  refused : ℕ → Made  -- with the refusal's code
 
 abbrev pub making : ℕ → Made
 making word = cond (checks word) (number word) (refused 1)

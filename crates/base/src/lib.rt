@@ -1,4 +1,4 @@
-// Bits on the wire, the lowest first.
+// Bits and check sums, registration numbers, refusals.
 #![tactic(auto)]
 
 pub mod bit_queue;

@@ -4,8 +4,8 @@ use Rattle.base.specs.Bits.{value, same, full, front_bit, rest_bits, none_left}
 use Rattle.base.proofs.Choice.{pick}
 use Rattle.kinds.specs.Kinds.{whole_row}
 use Rattle.memory.specs.Memories.{Memory, Protocol, protocols, bytes_in, kind_in, cut_memory, dwell_memory, HasScratchpad}
-use Rattle.memory.proofs.Keeps.{begin_bytes, take_bytes, wake_bytes, dwell_bytes, wake_same}
-use Rattle.chip.specs.Chips.{ChipOver, Live, off, on, Phase, idle, command, sending, matching, searching, rom_bit, complement, direction, selected, Command, read_rom, match_rom, search_rom, skip_rom, resume, unknown, command_of, run_command, after_agreed, select, take_in, take_live, powered}
+use Rattle.memory.proofs.Keeps.{begin_bytes, take_bytes, wake_bytes, dwell_bytes, power_up_same}
+use Rattle.chip.specs.Chips.{ChipOver, Live, off, on, Phase, idle, command, sending, matching, searching, rom_bit, complement, direction, selected, Command, read_rom, match_rom, search_rom, skip_rom, resume, unknown, command_of, run_command, after_agreed, select, take_powered, take_live, powered}
 use Rattle.chip.specs.ChipStates.{ChipState, made_chip, bytes_of, has_power, is_busy, pull_of, take_bit, reset_chip, dwell_chip, cut_chip, power_chip}
 
 module _ {S : Type 0} (P : Protocol S) where
@@ -20,7 +20,7 @@ module _ {S : Type 0} (P : Protocol S) where
   run_command-number resume rc c = pick rc (SameNumber c) refl refl
   run_command-number unknown rc c = refl
 
-  take-number : (p : Phase) (rc b : Bool) (c : ChipOver S) → (take_in P p rc b c).number ≡ c.number
+  take-number : (p : Phase) (rc b : Bool) (c : ChipOver S) → (take_powered P p rc b c).number ≡ c.number
   take-number idle rc b c = refl
   take-number (command bs) rc b c = pick (full (bs ++ (b ∷ []))) (SameNumber c) (run_command-number (command_of (value (bs ++ (b ∷ [])))) rc c) refl
   take-number (sending bs) rc b c = pick (none_left (rest_bits bs)) (SameNumber c) refl refl
@@ -45,20 +45,20 @@ SameBytes c d = bytes_of d ≡ bytes_of c
 select_bytes : (c : ChipState) (rc : Bool) → bytes_of (select protocols c rc) ≡ bytes_of c
 select_bytes c rc = begin_bytes c.memory
 
-obey_bytes : (o : Command) (rc : Bool) (c : ChipState) → bytes_of (run_command protocols o rc c) ≡ bytes_of c
-obey_bytes read_rom rc c = refl
-obey_bytes match_rom rc c = refl
-obey_bytes search_rom rc c = refl
-obey_bytes skip_rom rc c = select_bytes c false
-obey_bytes resume rc c = pick rc (SameBytes c) (select_bytes c true) refl
-obey_bytes unknown rc c = refl
+command_bytes : (o : Command) (rc : Bool) (c : ChipState) → bytes_of (run_command protocols o rc c) ≡ bytes_of c
+command_bytes read_rom rc c = refl
+command_bytes match_rom rc c = refl
+command_bytes search_rom rc c = refl
+command_bytes skip_rom rc c = select_bytes c false
+command_bytes resume rc c = pick rc (SameBytes c) (select_bytes c true) refl
+command_bytes unknown rc c = refl
 
 agreed_bytes : (bs : List Bool) (p : Phase) (rc : Bool) (c : ChipState) → bytes_of (after_agreed protocols bs p rc c) ≡ bytes_of c
 agreed_bytes bs p rc c = pick (none_left bs) (SameBytes c) (select_bytes c true) refl
 
-take_in_bytes : (p : Phase) (rc b : Bool) (c : ChipState) → bytes_of (take_in protocols p rc b c) ≡ bytes_of c
+take_in_bytes : (p : Phase) (rc b : Bool) (c : ChipState) → bytes_of (take_powered protocols p rc b c) ≡ bytes_of c
 take_in_bytes idle rc b c = refl
-take_in_bytes (command bs) rc b c = pick (full (bs ++ (b ∷ []))) (SameBytes c) (obey_bytes (command_of (value (bs ++ (b ∷ [])))) rc c) refl
+take_in_bytes (command bs) rc b c = pick (full (bs ++ (b ∷ []))) (SameBytes c) (command_bytes (command_of (value (bs ++ (b ∷ [])))) rc c) refl
 take_in_bytes (sending bs) rc b c = pick (none_left (rest_bits bs)) (SameBytes c) (select_bytes c rc) refl
 take_in_bytes (matching bs) rc b c = pick (same (front_bit bs) b) (SameBytes c) (agreed_bytes (rest_bits bs) (matching (rest_bits bs)) rc c) refl
 take_in_bytes (searching rom_bit bs) rc b c = refl
@@ -134,5 +134,5 @@ pub power_same : (c d : ChipState) → HasScratchpad c.memory → HasScratchpad 
     → power_chip c ≡ power_chip d
 power_same c d p q e f n k b =
     ap (λ l. power_chip (record { number = c.number; live = l; memory = c.memory })) e
-    ∙ (λ i. record { number = n i; live = on false idle; memory = wake_same c.memory d.memory p q k b i })
+    ∙ (λ i. record { number = n i; live = on false idle; memory = power_up_same c.memory d.memory p q k b i })
     ∙ ap (λ l. power_chip (record { number = d.number; live = l; memory = d.memory })) (sym f)

@@ -2,7 +2,7 @@
 use Rattle.std.proofs.Common.{◌≡◌, ℕ, Bool, refl, ◌∙◌}
 use Rattle.base.proofs.Choice.{pick}
 use Rattle.memory.specs.Memories.{Memory, kind_in, HasScratchpad}
-use Rattle.memory.proofs.Keeps.{begin_kind, take_kind, wake_kind, dwell_kind, burn_kind, wake_pads, begin_pads, take_pads, dwell_pads, burn_pads}
+use Rattle.memory.proofs.Keeps.{begin_kind, take_kind, wake_kind, dwell_kind, burn_kind, power_up_pads, select_pads, take_pads, dwell_pads, cut_pads}
 use Rattle.chip.specs.ChipStates.{ChipState, has_power, is_busy, take_bit, dwell_chip, cut_chip, power_chip}
 use Rattle.chip.proofs.Sound.{taken_keeps}
 
@@ -24,13 +24,13 @@ module _ (c : ChipState) where
 
   module _ (h : HasScratchpad c.memory) where
     pub pads_taken : (b : Bool) → HasScratchpad (take_bit b c).memory
-    pads_taken b = taken_keeps HasScratchpad begin_pads take_pads b c h
+    pads_taken b = taken_keeps HasScratchpad select_pads take_pads b c h
 
     pub pads_dwell : HasScratchpad (dwell_chip c).memory
     pads_dwell = pick (is_busy c) HasScratchpad (dwell_pads c.memory h) h
 
     pub pads_cut : (mask : ℕ) → HasScratchpad (cut_chip mask c).memory
-    pads_cut mask = pick (is_busy c) HasScratchpad (burn_pads c.memory mask h) h
+    pads_cut mask = pick (is_busy c) HasScratchpad (cut_pads c.memory mask h) h
 
     pub pads_power : HasScratchpad (power_chip c).memory
-    pads_power = pick (has_power c) HasScratchpad h (wake_pads c.memory h)
+    pads_power = pick (has_power c) HasScratchpad h (power_up_pads c.memory h)

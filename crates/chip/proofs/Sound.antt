@@ -4,7 +4,7 @@ use Rattle.base.specs.Bits.{value, same, full, front_bit, rest_bits, none_left}
 use Rattle.base.specs.RegistrationNumbers.{IsChecked}
 use Rattle.memory.specs.Memories.{Memory, protocols, select_memory, take_memory}
 use Rattle.memory.proofs.Sound.{SoundMemory, taken_sound, begun_sound, woken_sound, dwelt_sound, burnt_sound, made_sound}
-use Rattle.chip.specs.Chips.{Live, off, on, Phase, idle, command, sending, matching, searching, rom_bit, complement, direction, selected, Command, read_rom, match_rom, search_rom, skip_rom, resume, unknown, command_of, run_command, take_in, take_live}
+use Rattle.chip.specs.Chips.{Live, off, on, Phase, idle, command, sending, matching, searching, rom_bit, complement, direction, selected, Command, read_rom, match_rom, search_rom, skip_rom, resume, unknown, command_of, run_command, take_powered, take_live}
 use Rattle.chip.specs.ChipStates.{ChipState, has_power, is_busy, take_bit, reset_chip, dwell_chip, cut_chip, power_chip}
 use Rattle.chip.specs.Histories.{effects, Met, MetAll}
 use Rattle.chip.specs.Events.{Event, reset_came, bit_came, dwell_came, power_failed, power_came, effect}
@@ -16,17 +16,17 @@ module _ (Q : Memory → Type 0) (begun : (m : Memory) → Q m → Q (select_mem
   abbrev Of : ChipState → Type 0
   Of d = Q d.memory
 
-  obey_keeps : (o : Command) (rc : Bool) (c : ChipState) → Q c.memory → Q (run_command protocols o rc c).memory
-  obey_keeps read_rom rc c q = q
-  obey_keeps match_rom rc c q = q
-  obey_keeps search_rom rc c q = q
-  obey_keeps skip_rom rc c q = begun c.memory q
-  obey_keeps resume rc c q = pick rc Of (begun c.memory q) q
-  obey_keeps unknown rc c q = q
+  command_keeps : (o : Command) (rc : Bool) (c : ChipState) → Q c.memory → Q (run_command protocols o rc c).memory
+  command_keeps read_rom rc c q = q
+  command_keeps match_rom rc c q = q
+  command_keeps search_rom rc c q = q
+  command_keeps skip_rom rc c q = begun c.memory q
+  command_keeps resume rc c q = pick rc Of (begun c.memory q) q
+  command_keeps unknown rc c q = q
 
-  in_keeps : (p : Phase) (rc b : Bool) (c : ChipState) → Q c.memory → Q (take_in protocols p rc b c).memory
+  in_keeps : (p : Phase) (rc b : Bool) (c : ChipState) → Q c.memory → Q (take_powered protocols p rc b c).memory
   in_keeps idle rc b c q = q
-  in_keeps (command bs) rc b c q = pick (full (bs ++ (b ∷ []))) Of (obey_keeps (command_of (value (bs ++ (b ∷ [])))) rc c q) q
+  in_keeps (command bs) rc b c q = pick (full (bs ++ (b ∷ []))) Of (command_keeps (command_of (value (bs ++ (b ∷ [])))) rc c q) q
   in_keeps (sending bs) rc b c q = pick (none_left (rest_bits bs)) Of (begun c.memory q) q
   in_keeps (matching bs) rc b c q = pick (same (front_bit bs) b) Of (pick (none_left (rest_bits bs)) Of (begun c.memory q) q) q
   in_keeps (searching rom_bit bs) rc b c q = q

@@ -3,7 +3,7 @@ use Rattle.std.specs.Prelude.{ℕ, Bool, true, false, cond, not, ◌&&◌, List,
 use Rattle.base.specs.Bits.{bits_of, value, same, full, front_bit, rest_bits, none_left}
 use Rattle.memory.specs.Memories.{Protocol}
 
--- where a chip stands within a bit of its number: it sends the bit, sends its opposite, takes a choice
+-- where a chip stands within a bit of its number: it sends the bit, sends its complement, takes a direction
 pub data SearchPart : Type 0 where
   rom_bit : SearchPart
   complement : SearchPart
@@ -80,21 +80,21 @@ module _ {S : Type 0} (P : Protocol S) where
   abbrev pub after_agreed : List Bool → Phase → Bool → ChipOver S → ChipOver S
   after_agreed bs next rc c = elim (none_left bs) [ true ↦ select c true | false ↦ at c (on rc next) ]
 
-  abbrev pub take_in : Phase → Bool → Bool → ChipOver S → ChipOver S
-  take_in idle rc b c = at c (on rc idle)
-  take_in (command bs) rc b c = collect_bit (bs ++ (b ∷ [])) rc c
-  take_in (sending bs) rc b c = after_sent (rest_bits bs) rc c
-  take_in (matching bs) rc b c =
+  abbrev pub take_powered : Phase → Bool → Bool → ChipOver S → ChipOver S
+  take_powered idle rc b c = at c (on rc idle)
+  take_powered (command bs) rc b c = collect_bit (bs ++ (b ∷ [])) rc c
+  take_powered (sending bs) rc b c = after_sent (rest_bits bs) rc c
+  take_powered (matching bs) rc b c =
       elim (same (front_bit bs) b) [ true ↦ after_agreed (rest_bits bs) (matching (rest_bits bs)) rc c | false ↦ at c (on rc idle) ]
-  take_in (searching rom_bit bs) rc b c = at c (on rc (searching complement bs))
-  take_in (searching complement bs) rc b c = at c (on rc (searching direction bs))
-  take_in (searching direction bs) rc b c =
+  take_powered (searching rom_bit bs) rc b c = at c (on rc (searching complement bs))
+  take_powered (searching complement bs) rc b c = at c (on rc (searching direction bs))
+  take_powered (searching direction bs) rc b c =
       elim (same (front_bit bs) b) [ true ↦ after_agreed (rest_bits bs) (searching rom_bit (rest_bits bs)) rc c | false ↦ at c (on rc idle) ]
-  take_in selected rc b c = record { number = c.number; live = on rc selected; memory = P.take c.memory b }
+  take_powered selected rc b c = record { number = c.number; live = on rc selected; memory = P.take c.memory b }
 
   abbrev pub take_live : Live → Bool → ChipOver S → ChipOver S
   take_live off b c = at c off
-  take_live (on rc p) b c = take_in p rc b c
+  take_live (on rc p) b c = take_powered p rc b c
 
   abbrev pub taken : Bool → ChipOver S → ChipOver S
   taken b c = take_live c.live b c

@@ -4,6 +4,9 @@ ghost use Rattle.chip.specs.Chips.{on, at, select, run_command, command_of};
 ghost use Rattle.chip.specs.ChipStates.{made_chip, has_power, is_busy, pull_of, take_bit, reset_chip, dwell_chip, cut_chip, power_chip};
 ghost use Rattle.chip.specs.ChipModel.{model, phase_of};
 
+use crate::rom_phase::RomPhase::{
+    Command, Idle, MatchBits, SearchBit, SearchComplement, SearchDirection, Selected, SendRom,
+};
 use crate::rom_phase::{Live, RomPhase};
 use base::RegistrationNumber;
 use base::bit_queue::{Incoming, Outgoing};
@@ -113,42 +116,36 @@ impl<P: Protocol> Chip<P> {
             return;
         };
         match (phase, bit) {
-            (RomPhase::Idle, _) => {}
-            (RomPhase::Command { mut bits }, bit) => match bits.push(bit) {
-                None => self.enter(rc, RomPhase::Command { bits }),
+            (Idle, _) => {}
+            (Command { mut bits }, bit) => match bits.push(bit) {
+                None => self.enter(rc, Command { bits }),
                 Some(byte) => self.run_command(rc, byte),
             },
-            (RomPhase::SendRom { rest }, _) => match rest.next() {
-                Some(rest) => self.enter(rc, RomPhase::SendRom { rest }),
+            (SendRom { rest }, _) => match rest.next() {
+                Some(rest) => self.enter(rc, SendRom { rest }),
                 None => self.select(rc),
             },
-            (RomPhase::MatchBits { rest }, bit) => {
+            (MatchBits { rest }, bit) => {
                 if rest.bit() != bit {
-                    self.enter(rc, RomPhase::Idle);
+                    self.enter(rc, Idle);
                 } else if let Some(rest) = rest.next() {
-                    self.enter(rc, RomPhase::MatchBits { rest });
+                    self.enter(rc, MatchBits { rest });
                 } else {
                     self.select(true);
                 }
             }
-            (RomPhase::SearchBit { rest }, _) => self.enter(
-                rc,
-                RomPhase::SearchComplement { rest },
-            ),
-            (RomPhase::SearchComplement { rest }, _) => self.enter(
-                rc,
-                RomPhase::SearchDirection { rest },
-            ),
-            (RomPhase::SearchDirection { rest }, bit) => {
+            (SearchBit { rest }, _) => self.enter(rc, SearchComplement { rest }),
+            (SearchComplement { rest }, _) => self.enter(rc, SearchDirection { rest }),
+            (SearchDirection { rest }, bit) => {
                 if rest.bit() != bit {
-                    self.enter(rc, RomPhase::Idle);
+                    self.enter(rc, Idle);
                 } else if let Some(rest) = rest.next() {
-                    self.enter(rc, RomPhase::SearchBit { rest });
+                    self.enter(rc, SearchBit { rest });
                 } else {
                     self.select(true);
                 }
             }
-            (RomPhase::Selected, bit) => self.memory.take(bit),
+            (Selected, bit) => self.memory.take(bit),
         }
     }
 
@@ -174,13 +171,13 @@ impl<P: Protocol> Chip<P> {
     {
         let rest = Outgoing::from(self.number.word());
         match byte {
-            // Read Number.
+            // Read ROM.
             0x33 => self.enter(false, RomPhase::SendRom { rest }),
-            // Match Number.
+            // Match ROM.
             0x55 => self.enter(false, RomPhase::MatchBits { rest }),
-            // Seek Number.
+            // Search ROM.
             0xF0 => self.enter(false, RomPhase::SearchBit { rest }),
-            // Skip Number.
+            // Skip ROM.
             0xCC => self.select(false),
             // Resume.
             0xA5 if rc => self.select(true),

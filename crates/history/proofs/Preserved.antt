@@ -7,7 +7,7 @@ use Rattle.kinds.specs.Protection.{Keeps}
 use Rattle.kinds.proofs.Protection.{Suits, suits_load, keeps_program, keeps_self, keeps_trans, again}
 use Rattle.memory.specs.Memories.{Memory, kind_in, bytes_in, select_memory, take_memory, power_up_memory, cut_memory}
 use Rattle.memory.proofs.Sound.{SoundMemory, begun_sound, taken_sound}
-use Rattle.memory.proofs.Ready.{ReadyMemory, begun_fits, woken_fits, taken_fits, dwelt_fits, burnt_fits}
+use Rattle.memory.proofs.Ready.{ReadyMemory, selected_fits, powered_fits, taken_fits, dwelt_fits, programmed_fits}
 use Rattle.chip.specs.ChipStates.{ChipState, bytes_of, has_power, is_busy, take_bit, reset_chip, dwell_chip, cut_chip, power_chip}
 use Rattle.chip.specs.Histories.{effects, Met}
 use Rattle.chip.specs.Events.{Event, reset_came, bit_came, dwell_came, power_failed, power_came, effect}
@@ -31,7 +31,7 @@ abbrev Both : Memory → Type 0
 Both m = SoundMemory m × SealedReady m
 
 both_begun : (m : Memory) → Both m → Both (select_memory m)
-both_begun m h = (begun_sound m h.0, begun_fits Suits sealed suits_load m h.1)
+both_begun m h = (begun_sound m h.0, selected_fits Suits sealed suits_load m h.1)
 
 both_taken : (m : Memory) (b : Bool) → Both m → Both (take_memory m b)
 both_taken m b h = (taken_sound m b h.0, taken_fits Suits sealed suits_load m b h.0 h.1)
@@ -68,7 +68,7 @@ safe_power c s = record { sound = sound_power c s.sound; ready = λ _. go (has_p
   where
     go : (t : Bool) → has_power c ≡ t → SealedReady (elim t as (λ _. Memory) [ true ↦ c.memory | false ↦ power_up_memory c.memory ])
     go true e = s.ready e
-    go false e = woken_fits Suits sealed suits_load c.memory
+    go false e = powered_fits Suits sealed suits_load c.memory
 
 -- what each event keeps
 keeps_same : (c d : ChipState) → bytes_of d ≡ bytes_of c → Keeps (bytes_of c) (bytes_of d)
@@ -83,7 +83,7 @@ any_busy-powered c h = go (has_power c) refl
     go false e = absurd (true≢false (sym h ∙ off-busy c (off_powerless c e)))
 
 keeps_programmed : (mask : ℕ) (c : ChipState) → Safe c → is_busy c ≡ true → kind_in c.memory ≡ sealed → Keeps (bytes_of c) (bytes_in (cut_memory c.memory mask))
-keeps_programmed mask c s h e = burnt_fits Suits sealed suits_load Keeps keeps_self keeps_program c.memory mask s.sound.memory (s.ready (any_busy-powered c h)) e
+keeps_programmed mask c s h e = programmed_fits Suits sealed suits_load Keeps keeps_self keeps_program c.memory mask s.sound.memory (s.ready (any_busy-powered c h)) e
 
 keeps_dwell : (c : ChipState) → Safe c → kind_in c.memory ≡ sealed → Keeps (bytes_of c) (bytes_of (dwell_chip c))
 keeps_dwell c s e = go (is_busy c) refl

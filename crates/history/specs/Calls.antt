@@ -23,7 +23,7 @@ pub data Reply : Type 0 where
   presence_is : Bool → Reply
   bit_is : Bool → Reply
   done : Reply
-  refused_with : ℕ → Reply  -- the refusal's number
+  refused_with : ℕ → Reply  -- the refusal's code
   listed : Report ℕ × List ℕ → Reply  -- with the numbers written
   row_is : Report (List ℕ) → Reply  -- with the row written
   judged_as : Verdict → Reply

@@ -1,4 +1,4 @@
--- What the code's answers mean: each case with its refusal's number.
+-- What the code's answers mean: each case with its refusal's code.
 use Rattle.std.specs.Prelude.{ℕ, List, Ok, Err, Result}
 use Rattle.kinds.specs.Kinds.{Made, holding, refused}
 use Rattle.kinds.specs.declared.image.Image.{Image}

@@ -76,7 +76,7 @@ program w row new mask m =
 -- what making a tag, or the image that it holds, gives
 pub data Made : Type 0 where
   holding : List ℕ → Made  -- with its bytes
-  refused : ℕ → Made  -- with the refusal's number
+  refused : ℕ → Made  -- with the refusal's code
 
 abbrev pub imaging : ℕ → List ℕ → Made
 imaging size image = cond (length image == size) (holding image) (refused 2)

@@ -1,5 +1,5 @@
 ghost use Rattle.std.specs.Prelude.{◌≡◌, ℕ, List, length};
-ghost use Rattle.kinds.specs.Kinds.{Rules, Figures, Lawful, Bytes, at, program, making};
+ghost use Rattle.kinds.specs.Kinds.{Rules, Figures, Lawful, Bytes, at, may_copy, program, making};
 ghost use Rattle.kinds.specs.ImageMaking.{made_of};
 
 use crate::image_fault::ImageFault;
@@ -38,7 +38,7 @@ pub trait Kind: Sized {
 
     // Whether a row may be copied to.
     fn may_copy(&self, row: u16) -> bool
-        ensures { result ≡ rules.copy_rule (bytes self.now) row };
+        ensures { result ≡ may_copy rules (bytes self.now) row };
 
     // Programs a row through a mask: the new bit where the mask has a one, the old bit elsewhere.
     fn program(&mut self, row: u16, new: &[u8; ROW], mask: u64)

@@ -15,7 +15,7 @@ use Rattle.line.specs.declared.one_tag.OneTag.{OneTag}
 abbrev pub made_tag : Rules → ℕ → List ℕ → ChipState
 made_tag K number image = made_chip number (padded (record { rules = K; bytes = K.made image; work = on fresh idle }))
 
--- what the place holds afterwards, and the refusal's number if it was refused
+-- what the place holds afterwards, and the refusal's code if it was refused
 abbrev pub placing : Rules → ℕ → List ℕ → Option ChipState → Option ChipState × Option ℕ
 placing K number image held =
     elim (length image == K.image) [ true ↦ (Some (made_tag K number image), None) | false ↦ (held, Some 2) ]

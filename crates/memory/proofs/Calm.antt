@@ -97,8 +97,8 @@ program_beside w row new mask m a h =
 
 -- 2. the laws of memories
 -- once the memory phase has begun a memory is not programming, and hears a command, whatever it is
-pub begun_free : (m : Memory) → programming_memory (select_memory m) ≡ false
-begun_free (padded p) = refl
+pub selected_free : (m : Memory) → programming_memory (select_memory m) ≡ false
+selected_free (padded p) = refl
 
 pub command_heard : (b : ℕ) (m : Memory) → HearsIn (bits_of 8 b) (select_memory m)
 command_heard b (padded p) = byte_heard command b [] p tt

@@ -33,9 +33,9 @@ burn_kind (padded p) mask = refl
 pub dwell_bytes : (m : Memory) → bytes_in (dwell_memory m) ≡ bytes_in (cut_memory m whole_row)
 dwell_bytes (padded p) = refl
 
--- a scratchpad memory that wakes is given by its kind and its bytes
-pub wake_same : (m n : Memory) → HasScratchpad m → HasScratchpad n → kind_in m ≡ kind_in n → bytes_in m ≡ bytes_in n → power_up_memory m ≡ power_up_memory n
-wake_same m n (p, e) (q, f) k b = ap power_up_memory e ∙ (λ i. padded (record { rules = rules i; bytes = bytes i; work = on fresh idle })) ∙ sym (ap power_up_memory f)
+-- a scratchpad memory after power-up is given by its kind and its bytes
+pub power_up_same : (m n : Memory) → HasScratchpad m → HasScratchpad n → kind_in m ≡ kind_in n → bytes_in m ≡ bytes_in n → power_up_memory m ≡ power_up_memory n
+power_up_same m n (p, e) (q, f) k b = ap power_up_memory e ∙ (λ i. padded (record { rules = rules i; bytes = bytes i; work = on fresh idle })) ∙ sym (ap power_up_memory f)
   where
     rules : p.rules ≡ q.rules
     rules = sym (ap kind_in e) ∙ k ∙ ap kind_in f
@@ -44,11 +44,11 @@ wake_same m n (p, e) (q, f) k b = ap power_up_memory e ∙ (λ i. padded (record
     bytes = sym (ap bytes_in e) ∙ b ∙ ap bytes_in f
 
 -- a step leaves a scratchpad memory one
-pub wake_pads : (m : Memory) → HasScratchpad m → HasScratchpad (power_up_memory m)
-wake_pads m (p, e) = (power_up_pad p, ap power_up_memory e)
+pub power_up_pads : (m : Memory) → HasScratchpad m → HasScratchpad (power_up_memory m)
+power_up_pads m (p, e) = (power_up_pad p, ap power_up_memory e)
 
-pub begin_pads : (m : Memory) → HasScratchpad m → HasScratchpad (select_memory m)
-begin_pads m (p, e) = (select_pad p, ap select_memory e)
+pub select_pads : (m : Memory) → HasScratchpad m → HasScratchpad (select_memory m)
+select_pads m (p, e) = (select_pad p, ap select_memory e)
 
 pub take_pads : (m : Memory) (b : Bool) → HasScratchpad m → HasScratchpad (take_memory m b)
 take_pads m b (p, e) = (take_pad p b, ap (λ n. take_memory n b) e)
@@ -56,5 +56,5 @@ take_pads m b (p, e) = (take_pad p b, ap (λ n. take_memory n b) e)
 pub dwell_pads : (m : Memory) → HasScratchpad m → HasScratchpad (dwell_memory m)
 dwell_pads m (p, e) = (dwell_pad p, ap dwell_memory e)
 
-pub burn_pads : (m : Memory) (mask : ℕ) → HasScratchpad m → HasScratchpad (cut_memory m mask)
-burn_pads m mask (p, e) = (cut_pad p mask, ap (λ n. cut_memory n mask) e)
+pub cut_pads : (m : Memory) (mask : ℕ) → HasScratchpad m → HasScratchpad (cut_memory m mask)
+cut_pads m mask (p, e) = (cut_pad p mask, ap (λ n. cut_memory n mask) e)

@@ -47,12 +47,12 @@ module _ (F : ℕ → ℕ → Type 0) where
     pub doing : ReadyDoing w.regs w.doing
 
   module _ (K : Rules) (m : List ℕ) (fits : (a x : ℕ) → F a (K.load m a x)) where
-    obey_ready : (c : Command) (r : Regs) → ReadyRegs r → ReadyWork (run_command K m c r)
-    obey_ready write_scratchpad r f = record { regs = λ e. absurd (true≢false e); doing = refl }
-    obey_ready read_scratchpad r f = record { regs = f; doing = tt }
-    obey_ready copy_scratchpad r f = record { regs = f; doing = tt }
-    obey_ready read_memory r f = record { regs = f; doing = tt }
-    obey_ready unknown r f = record { regs = f; doing = tt }
+    command_ready : (c : Command) (r : Regs) → ReadyRegs r → ReadyWork (run_command K m c r)
+    command_ready write_scratchpad r f = record { regs = λ e. absurd (true≢false e); doing = refl }
+    command_ready read_scratchpad r f = record { regs = f; doing = tt }
+    command_ready copy_scratchpad r f = record { regs = f; doing = tt }
+    command_ready read_memory r f = record { regs = f; doing = tt }
+    command_ready unknown r f = record { regs = f; doing = tt }
 
     -- one more byte is loaded
     fit_more : (k b : ℕ) (r : Regs) → SoundRegs r → k < 8 → FitTo k r → FitTo (k + 1) (set_pad k (K.load m (row_of r + k) b) r)
@@ -95,7 +95,7 @@ module _ (F : ℕ → ℕ → Type 0) where
         go a b c d g h = (and_parts d g (and_parts c (d && g) (and_parts b (c && (d && g)) (and_parts a (b && (c && (d && g))) h).1).1).1).0
 
     got_ready : (w : Awaited) (b : ℕ) (r : Regs) → SoundRegs r → SoundAwaited w → ReadyRegs r → ReadyAwaited r w → ReadyWork (take_byte K m w b r)
-    got_ready command b r s a f h = obey_ready (command_of b) r f
+    got_ready command b r s a f h = command_ready (command_of b) r f
     got_ready load_low b r s a f h = record { regs = λ z. absurd (true≢false (sym h ∙ z)); doing = h }
     got_ready load_high b r s a f h = record {
       regs = λ z. absurd (true≢false (sym h ∙ z));
@@ -177,11 +177,11 @@ module _ (F : List ℕ → ℕ → ℕ → Type 0) (K : Rules) (loads : (m : Lis
   abbrev pub ReadyMemory : Memory → Type 0
   ReadyMemory (padded p) = p.rules ≡ K → ReadyPad F p
 
-  pub begun_fits : (m : Memory) → ReadyMemory m → ReadyMemory (select_memory m)
-  begun_fits (padded p) h = λ e. begun_ready F p (h e)
+  pub selected_fits : (m : Memory) → ReadyMemory m → ReadyMemory (select_memory m)
+  selected_fits (padded p) h = λ e. begun_ready F p (h e)
 
-  pub woken_fits : (m : Memory) → ReadyMemory (power_up_memory m)
-  woken_fits (padded p) = λ e. woken_ready F p
+  pub powered_fits : (m : Memory) → ReadyMemory (power_up_memory m)
+  powered_fits (padded p) = λ e. woken_ready F p
 
   pub taken_fits : (m : Memory) (b : Bool) → SoundMemory m → ReadyMemory m → ReadyMemory (take_memory m b)
   taken_fits (padded p) b s h = λ e. taken_ready F p b (λ a x. subst (λ (k : Rules). F p.bytes a (k.load p.bytes a x)) (sym e) (loads p.bytes a x)) s (h e)
@@ -197,7 +197,7 @@ module _ (F : List ℕ → ℕ → ℕ → Type 0) (K : Rules) (loads : (m : Lis
       (again (row_of p.work.regs) p.work.regs.pad p.bytes (s.whole ∙ ap (λ (k : Rules). k.n) e) s.work.regs.small)) (h e)
 
   -- so what programming keeps of the bytes where each may stand, a cut keeps
-  pub burnt_fits : (R : List ℕ → List ℕ → Type 0) → ((m : List ℕ) → R m m) → ((m : List ℕ) (w row : ℕ) (new : List ℕ) (mask : ℕ) → Bytes m → RowFits m row new → R m (program w row new mask m))
+  pub programmed_fits : (R : List ℕ → List ℕ → Type 0) → ((m : List ℕ) → R m m) → ((m : List ℕ) (w row : ℕ) (new : List ℕ) (mask : ℕ) → Bytes m → RowFits m row new → R m (program w row new mask m))
       → (m : Memory) (mask : ℕ) → SoundMemory m → ReadyMemory m → kind_in m ≡ K → R (bytes_in m) (bytes_in (cut_memory m mask))
-  burnt_fits R self programs (padded p) mask s h e =
+  programmed_fits R self programs (padded p) mask s h e =
       burnt_each F (R p.bytes) p mask (h e) (λ fit. programs p.bytes p.rules.w (row_of p.work.regs) p.work.regs.pad mask s.small fit) (self p.bytes)

@@ -70,12 +70,12 @@ pf_set : (r : Regs) (p : Bool) → SoundRegs r → SoundRegs (set_pf p r)
 pf_set r p s = record { low = s.low; high = s.high; ending = s.ending; whole = s.whole; small = s.small }
 
 module _ (K : Rules) (law : Lawful K) (m : List ℕ) (small : Bytes m) where
-  obey_sound : (c : Command) (r : Regs) → SoundRegs r → SoundWork (run_command K m c r)
-  obey_sound write_scratchpad r s = record { regs = flags r true false s; doing = (omega arith, tt) }
-  obey_sound read_scratchpad r s = record { regs = s; doing = tt }
-  obey_sound copy_scratchpad r s = record { regs = s; doing = (omega arith, tt) }
-  obey_sound read_memory r s = record { regs = s; doing = (omega arith, tt) }
-  obey_sound unknown r s = record { regs = s; doing = tt }
+  command_sound : (c : Command) (r : Regs) → SoundRegs r → SoundWork (run_command K m c r)
+  command_sound write_scratchpad r s = record { regs = flags r true false s; doing = (omega arith, tt) }
+  command_sound read_scratchpad r s = record { regs = s; doing = tt }
+  command_sound copy_scratchpad r s = record { regs = s; doing = (omega arith, tt) }
+  command_sound read_memory r s = record { regs = s; doing = (omega arith, tt) }
+  command_sound unknown r s = record { regs = s; doing = tt }
 
   loaded_sound : (k sum : ℕ) (r : Regs) → k < 8 → SoundRegs r → SoundWork (after_data K m k sum r)
   loaded_sound k sum r h s = go (leb 7 k) refl
@@ -94,7 +94,7 @@ module _ (K : Rules) (law : Lawful K) (m : List ℕ) (small : Bytes m) where
   stopped_sound x y z r s = record { low = s.low; high = s.high; ending = s.ending; whole = s.whole; small = s.small }
 
   got_sound : (w : Awaited) (b : ℕ) (r : Regs) → b < 256 → SoundAwaited w → SoundRegs r → SoundWork (take_byte K m w b r)
-  got_sound command b r h a s = obey_sound (command_of b) r s
+  got_sound command b r h a s = command_sound (command_of b) r s
   got_sound load_low b r h a s =
       record { regs = record { low = h; high = s.high; ending = omega arith; whole = s.whole; small = s.small }; doing = (omega arith, tt) }
   got_sound load_high b r h a s =

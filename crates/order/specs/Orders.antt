@@ -12,8 +12,8 @@ use Rattle.order.specs.Writings.{writes_scratchpad, verifies_scratchpad, copies_
 -- how an order ends
 pub data Ending : Type 0 where
   held : Bool → Ending  -- programmed or not
-  refusal : ℕ → ℕ → Ending  -- number, exchange
-  refusal_at : ℕ → ℕ → ℕ → Ending  -- number, exchange, the first index that differs
+  refusal : ℕ → ℕ → Ending  -- code, exchange
+  refusal_at : ℕ → ℕ → ℕ → Ending  -- code, exchange, the first index that differs
 
 abbrev pub failed : ExchangeError → ℕ → Job Ending
 failed error e = ret (refusal (error_code error) e)
@@ -41,8 +41,8 @@ ordering x row new =
 -- what the caller of an order is told, with the steps made; exchange 0 where the rig refused, and before any step
 pub data Verdict : Type 0 where
   holds : Bool → ℕ → Verdict  -- programmed or not, steps
-  refuses : ℕ → ℕ → ℕ → Verdict  -- number, exchange, steps
-  refuses_at : ℕ → ℕ → ℕ → ℕ → Verdict  -- number, exchange, the first index that differs, steps
+  refuses : ℕ → ℕ → ℕ → Verdict  -- code, exchange, steps
+  refuses_at : ℕ → ℕ → ℕ → ℕ → Verdict  -- code, exchange, the first index that differs, steps
 
 abbrev pub verdict_of : Got Ending → ℕ → Verdict
 verdict_of (done (held programmed)) n = holds programmed n

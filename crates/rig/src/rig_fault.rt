@@ -11,7 +11,6 @@ pub enum RigFault {
     LineBusy { steps: u32 },
 }
 
-// The refusal that it is told as.
 impl RigFault {
     // The steps made before it.
     pub fn steps(&self) -> u32
@@ -22,6 +21,7 @@ impl RigFault {
         }
     }
 
+    // The refusal that it is told as.
     pub fn refusal(&self) -> Refusal
         ensures { code_of result ≡ refusal self.now }
     {

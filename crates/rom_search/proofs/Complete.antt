@@ -9,7 +9,7 @@ use Rattle.wire.specs.Jobs.{Job, ret, Said, good, bad, send_bytes}
 use Rattle.wire.proofs.Leading.{Leads, leads_then, leads_none, leads_step, send_all}
 use Rattle.rom_search.specs.Searches.{NextPath, no_path, next_path, triples, passes}
 use Rattle.rom_search.proofs.Enumerate.{from, after, found, next, Valid, ValidNext, Uniform, pass_law}
-use Rattle.rom_search.proofs.Seekers.{line_at, pass_line, here, busy_any}
+use Rattle.rom_search.proofs.Searchers.{line_at, pass_line, here, busy_any}
 use Rattle.rom_search.proofs.Starts.{start, rests_start, here_start, all_hear, all_take, uniform_here, presence_here, valid_some}
 
 abbrev pub Out : Type 0

@@ -15,7 +15,7 @@ use Rattle.rom_search.specs.declared.triplets.Triplet.{Triplet}
 use Rattle.rom_search.specs.declared.triplets.Triplet.TheVariants.{Only, Both}
 use Rattle.rom_search.specs.declared.triplets.Pass.{Pass}
 use Rattle.rom_search.specs.declared.triplets.PassState.{PassState}
-use Rattle.rom_search.proofs.Words.{gather, passed, turned, turned_more, walk_rest, gather_value, gather_next, halve}
+use Rattle.rom_search.proofs.Words.{gather, passed, turned, turned_more, path_rest, gather_value, gather_next, halve}
 
 abbrev pub Fits : ℕ → NextPath → Type 0
 Fits n no_path = Unit {0}
@@ -38,9 +38,9 @@ module _ {A : Type 0} (lost : Job A) where
 abbrev ends : ℕ → Option ℕ → Job (Option Pass)
 ends x y = ret (Some (passed x y))
 
-pub walk_start : (start : ℕ) → walk_rest 64 (record { path = start; number = 0; next = None }) ≡ triplets_along start
+pub path_start : (start : ℕ) → path_rest 64 (record { path = start; number = 0; next = None }) ≡ triplets_along start
 unfolding triplets_along
-walk_start start = triples_ext (ret None) 64 (bits_of 64 start) _ _ same
+path_start start = triples_ext (ret None) 64 (bits_of 64 start) _ _ same
   where
     next : (nx : NextPath) → Fits 64 nx → turned 64 0 None nx ≡ path_word nx
     next no_path f = refl
@@ -49,8 +49,8 @@ walk_start start = triples_ext (ret None) 64 (bits_of 64 start) _ _ same
     same : (bs : List Bool) (nx : NextPath) → length bs ≡ 64 → Fits 64 nx → ends (gather 0 bs) (turned 64 0 None nx) ≡ ends (value bs) (path_word nx)
     same bs nx e f = ap₂ ends (gather_value bs e) (next nx f)
 
-pub walk_done : (s : PassState) (d : Counting) → (d, Ok (Some (passed s.number s.next))) ≡ does (walk_rest 0 s) d
-walk_done s d = ap (λ o. (d, Ok (Some (passed s.number o)))) (same s.next) ∙ sym (does-ret (Some (passed s.number (option_map (halve 0) s.next))) d)
+pub path_done : (s : PassState) (d : Counting) → (d, Ok (Some (passed s.number s.next))) ≡ does (path_rest 0 s) d
+path_done s d = ap (λ o. (d, Ok (Some (passed s.number o)))) (same s.next) ∙ sym (does-ret (Some (passed s.number (option_map (halve 0) s.next))) d)
   where
     same : (o : Option ℕ) → o ≡ option_map (halve 0) o
     same None = refl
@@ -88,22 +88,22 @@ module _ (n : ℕ) (s : PassState) (d : Counting) where
   abbrev second : Bool → Job (Option Pass)
   second a = step (slot_pulse true) (λ b. third a b (a && b))
 
-  pub walk_err1 : {d1 : Counting} {x : RigFault} → (d1, Err x) ≡ counted_pulse (slot_pulse true) d → does (walk_rest (suc n) s) d ≡ (d1, Err x)
+  pub walk_err1 : {d1 : Counting} {x : RigFault} → (d1, Err x) ≡ counted_pulse (slot_pulse true) d → does (path_rest (suc n) s) d ≡ (d1, Err x)
   walk_err1 e = step_err (slot_pulse true) second d e
 
   module _ {d1 : Counting} {a : Bool} (e1 : (d1, Ok a) ≡ counted_pulse (slot_pulse true) d) where
-    pub walk_err2 : {d2 : Counting} {x : RigFault} → (d2, Err x) ≡ counted_pulse (slot_pulse true) d1 → does (walk_rest (suc n) s) d ≡ (d2, Err x)
+    pub walk_err2 : {d2 : Counting} {x : RigFault} → (d2, Err x) ≡ counted_pulse (slot_pulse true) d1 → does (path_rest (suc n) s) d ≡ (d2, Err x)
     walk_err2 e = step_ok (slot_pulse true) second d e1 ∙ step_err (slot_pulse true) (λ b. third a b (a && b)) d1 e
 
     module _ {d2 : Counting} {b : Bool} (e2 : (d2, Ok b) ≡ counted_pulse (slot_pulse true) d1) where
-      two : does (walk_rest (suc n) s) d ≡ does (third a b (a && b)) d2
+      two : does (path_rest (suc n) s) d ≡ does (third a b (a && b)) d2
       two = step_ok (slot_pulse true) second d e1 ∙ step_ok (slot_pulse true) (λ b. third a b (a && b)) d1 e2
 
-      pub walk_lost : None ≡ triplet_of a b → does (walk_rest (suc n) s) d ≡ (d2, Ok None)
-      walk_lost h = two ∙ ap (λ l. does (third a b l) d2) (nobody a b (sym h)) ∙ does-ret None d2
+      pub path_lost : None ≡ triplet_of a b → does (path_rest (suc n) s) d ≡ (d2, Ok None)
+      path_lost h = two ∙ ap (λ l. does (third a b l) d2) (nobody a b (sym h)) ∙ does-ret None d2
 
       module _ {m : Triplet} {t : Bool} (h : Some m ≡ triplet_of a b) (p : t ≡ direction_taken m (odd s.path)) where
-        to_third : does (walk_rest (suc n) s) d ≡ does (step (slot_pulse t) (λ _. rest (turns m t) t)) d2
+        to_third : does (path_rest (suc n) s) d ≡ does (step (slot_pulse t) (λ _. rest (turns m t) t)) d2
         to_third =
             let k = known a b n s.path m (sym h) in
             two ∙ ap (λ l. does (third a b l) d2) k.some
@@ -111,11 +111,11 @@ module _ (n : ℕ) (s : PassState) (d : Counting) where
             ∙ ap (λ f. does (step (slot_pulse (direction_taken m (odd s.path))) (λ _. rest f (direction_taken m (odd s.path)))) d2) k.turning
             ∙ ap (λ t. does (step (slot_pulse t) (λ _. rest (turns m t) t)) d2) (sym p)
 
-        pub walk_err3 : {d3 : Counting} {x : RigFault} → (d3, Err x) ≡ counted_pulse (slot_pulse t) d2 → does (walk_rest (suc n) s) d ≡ (d3, Err x)
+        pub walk_err3 : {d3 : Counting} {x : RigFault} → (d3, Err x) ≡ counted_pulse (slot_pulse t) d2 → does (path_rest (suc n) s) d ≡ (d3, Err x)
         walk_err3 e = to_third ∙ step_err (slot_pulse t) (λ _. rest (turns m t) t) d2 e
 
-        pub walk_more : {d3 : Counting} {c : Bool} → (d3, Ok c) ≡ counted_pulse (slot_pulse t) d2 → does (walk_rest (suc n) s) d ≡ does (walk_rest n (after_triplet s m t)) d3
-        walk_more {d3} e =
+        pub path_more : {d3 : Counting} {c : Bool} → (d3, Ok c) ≡ counted_pulse (slot_pulse t) d2 → does (path_rest (suc n) s) d ≡ does (path_rest n (after_triplet s m t)) d3
+        path_more {d3} e =
             to_third ∙ step_ok (slot_pulse t) (λ _. rest (turns m t) t) d2 e
             ∙ ap (λ f. does (triples (ret None) n (bits_of n (s.path / 2)) f) d3)
             (fun_ext (λ bs. fun_ext (λ nx. ap (ends (gather (shift64 s.number t) bs)) (turned_more n s.number s.next (turns m t) t nx))))

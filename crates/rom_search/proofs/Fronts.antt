@@ -11,7 +11,7 @@ use Rattle.wire.proofs.Cuts.{CutSafe, safe_send}
 use Rattle.rom_search.specs.Searches.{NextPath, no_path, next_path, passes}
 use Rattle.rom_search.specs.Laws.{Front}
 use Rattle.rom_search.proofs.Enumerate.{from, after, found, next, Valid, ValidNext, Uniform, Law, pass_law}
-use Rattle.rom_search.proofs.Seekers.{line_at, here, busy_any, Determined, dead_triples, pass_safe}
+use Rattle.rom_search.proofs.Searchers.{line_at, here, busy_any, Determined, dead_triples, pass_safe}
 use Rattle.rom_search.proofs.Starts.{start, rests_start, here_start, all_hear, all_take, uniform_here, presence_here, valid_some}
 use Rattle.rom_search.proofs.Complete.{Out, going, seeks, after_reset, more_got}
 

@@ -6,7 +6,7 @@ pub mod Following
 pub mod Fronts
 pub mod Passing
 pub mod Searched
-pub mod Seekers
+pub mod Searchers
 pub mod Sequences
 pub mod Starts
 pub mod Unrefused

@@ -16,7 +16,7 @@ use Rattle.wire.specs.declared.exchange_fault.ExchangeError.TheVariants.{NoPrese
 use Rattle.wire.specs.declared.exchange_fault.ExchangeFault.{ExchangeFault}
 use Rattle.wire.specs.declared.exchange_fault.ExchangeFault.TheVariants.{Rig, Failed}
 use Rattle.wire.specs.Exchanges.{error_code}
-use Rattle.wire.proofs.Tallies.{Carried, beat_carried, does_carried}
+use Rattle.wire.proofs.Tallies.{Carried, pulse_carried, does_carried}
 use Rattle.wire.proofs.Follows.{past, run_step, run-send, run_part}
 use Rattle.rom_search.specs.declared.search_fault.SearchFault.TheVariants.{Full, Exchange as InExchange}
 use Rattle.rom_search.specs.Triplets.{path_word, triplets_along}
@@ -154,7 +154,7 @@ Numbered e (d, Err (Rig x)) = steps_made x ≡ d.steps
 Numbered e (d, Err (Failed error x s)) = (x ≡ e) × (s ≡ d.steps)
 
 numbered : (w e : ℕ) (d : Counting) → Numbered e (pass_told w e d)
-numbered w e d = subst (Numbered e) (sym (pass_as w e d)) (first (counted_pulse reset_pulse d).0 (counted_pulse reset_pulse d).1 (beat_carried reset_pulse d))
+numbered w e d = subst (Numbered e) (sym (pass_as w e d)) (first (counted_pulse reset_pulse d).0 (counted_pulse reset_pulse d).1 (pulse_carried reset_pulse d))
   where
     last : (o : Option Pass) (s : Counting) → Numbered e (pass_found e o s)
     last None s = (refl, refl)

@@ -20,8 +20,8 @@ use Rattle.rom_search.specs.Searches.{NextPath, no_path, next_path, onward, tail
 use Rattle.rom_search.specs.Laws.{numbers_on, In, Before, BeforeEach, Ordered, Sequence, Front, Lists, SearchComplete, BusyUnchanged, BytesStay, most_steps, SearchBound}
 use Rattle.rom_search.proofs.Called.{told, searched}
 use Rattle.rom_search.proofs.Enumerate.{Rests, is_nil, enum_none, from, after, next, some-next_path, pass_law, Uniform, Valid}
-use Rattle.rom_search.proofs.Seekers.{here, Determined}
-use Rattle.rom_search.proofs.Seekers.{In as InRests}
+use Rattle.rom_search.proofs.Searchers.{here, Determined}
+use Rattle.rom_search.proofs.Searchers.{In as InRests}
 use Rattle.rom_search.proofs.Sequences.{BeforeAll, enum_ordered, enum_in, in_enum}
 use Rattle.rom_search.proofs.Sequences.{Ordered as OrderedRests}
 use Rattle.rom_search.proofs.Starts.{Named, named, listed_here, wide_listed, proper, uniform_here, presence_here, determined}

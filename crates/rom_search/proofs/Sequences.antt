@@ -2,7 +2,7 @@
 use Rattle.std.proofs.Common.{◌≡◌, ℕ, zero, suc, Bool, true, false, ◌⊎◌, List, [], ◌∷◌, ◌++◌, sym, refl, ap, ◌∙◌, subst, inl, inr, arith}
 use Rattle.base.specs.Bits.{same}
 use Rattle.rom_search.specs.Laws.{Before}
-use Rattle.rom_search.proofs.Seekers.{In, in_branch}
+use Rattle.rom_search.proofs.Searchers.{In, in_branch}
 use Rattle.rom_search.proofs.Enumerate.{Rests, branch, enum, Uniform, uniform_branch, ahead}
 
 abbrev pub BeforeAll : List Bool → Rests → Type 0

@@ -15,15 +15,15 @@ use Rattle.line.specs.Lines.{presence, any_busy}
 use Rattle.wire.proofs.Leading.{HearsAll, word_bits}
 use Rattle.rom_search.specs.Laws.{numbers_on, In}
 use Rattle.rom_search.proofs.Enumerate.{Rests, is_nil, Uniform, Valid}
-use Rattle.rom_search.proofs.Seekers.{Seeker, silent, going, rests, place, line_at, bits_on, here, Determined}
-use Rattle.rom_search.proofs.Seekers.{In as InRests}
+use Rattle.rom_search.proofs.Searchers.{Searcher, silent, going, rests, place, line_at, bits_on, here, Determined}
+use Rattle.rom_search.proofs.Searchers.{In as InRests}
 
 -- the chips as a pass begins
-abbrev start_live : ℕ → Memory → Live → Seeker
+abbrev start_live : ℕ → Memory → Live → Searcher
 start_live x m off = silent (record { number = x; live = off; memory = m }) tt
 start_live x m (on rc p) = going x m false (bits_of 64 x)
 
-abbrev pub start : List ChipState → List Seeker
+abbrev pub start : List ChipState → List Searcher
 start [] = []
 start (c ∷ cs) = start_live c.number c.memory c.live ∷ start cs
 

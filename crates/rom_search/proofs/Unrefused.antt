@@ -10,7 +10,7 @@ use Rattle.wire.specs.Jobs.{Job, ret, line_busy, run, bad}
 use Rattle.wire.proofs.Calm.{Leaves, NotThree, leaves_send, Unrefused, Ended, unrefused_run, heard_send}
 use Rattle.rom_search.specs.Searches.{NextPath, no_path, next_path, onward, tail_of, chosen, triples, passes}
 use Rattle.rom_search.proofs.Enumerate.{Uniform}
-use Rattle.rom_search.proofs.Seekers.{Seeker, line_at, busy_any, unrefused_triples}
+use Rattle.rom_search.proofs.Searchers.{Searcher, line_at, busy_any, unrefused_triples}
 use Rattle.rom_search.proofs.Starts.{start, rests_start, all_hear, all_take, uniform_here}
 use Rattle.rom_search.proofs.Complete.{Out, going, seeks, after_reset}
 
@@ -19,11 +19,11 @@ pub unrefused_passes : (room pass : ℕ) (path : List Bool) (got : List ℕ) (l 
 unrefused_passes zero pass path got l b = tt
 unrefused_passes (suc room) pass path got l b = (b, opened (presence l) (λ bs nx D. on bs nx D (λ p. unrefused_passes room (suc pass) p (got ++ (value bs ∷ [])) (line_at rom_bit D) (busy_any D))))
   where
-    on : (bs : List Bool) (nx : NextPath) (D : List Seeker) → ((p : List Bool) → Unrefused (passes room (suc pass) p (got ++ (value bs ∷ []))) (line_at rom_bit D)) → Unrefused (going room pass got bs nx) (line_at rom_bit D)
+    on : (bs : List Bool) (nx : NextPath) (D : List Searcher) → ((p : List Bool) → Unrefused (passes room (suc pass) p (got ++ (value bs ∷ []))) (line_at rom_bit D)) → Unrefused (going room pass got bs nx) (line_at rom_bit D)
     on bs no_path D ih = tt
     on bs (next_path p) D ih = ih p
 
-    opened : (t : Bool) → ((bs : List Bool) (nx : NextPath) (D : List Seeker) → Unrefused (going room pass got bs nx) (line_at rom_bit D)) → Unrefused (after_reset room pass path got t) (map reset_chip l)
+    opened : (t : Bool) → ((bs : List Bool) (nx : NextPath) (D : List Searcher) → Unrefused (going room pass got bs nx) (line_at rom_bit D)) → Unrefused (after_reset room pass path got t) (map reset_chip l)
     opened false g = tt
     opened true g =
         heard_send (bits_of 8 0xF0) (seeks room pass path got) (map reset_chip l) (all_hear l b)

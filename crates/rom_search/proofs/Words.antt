@@ -72,8 +72,8 @@ abbrev pub passed : ℕ → Option ℕ → Pass
 passed word next = record { number = word; next = next }
 
 -- what is left of a pass
-abbrev pub walk_rest : ℕ → PassState → Job (Option Pass)
-walk_rest n s = triples (ret None) n (bits_of n s.path) (λ bs nx. ret (Some (passed (gather s.number bs) (turned n s.number s.next nx))))
+abbrev pub path_rest : ℕ → PassState → Job (Option Pass)
+path_rest n s = triples (ret None) n (bits_of n s.path) (λ bs nx. ret (Some (passed (gather s.number bs) (turned n s.number s.next nx))))
 
 pub turned_more : (n word : ℕ) (next : Option ℕ) (f t : Bool) (nx : NextPath) → turned (suc n) word next (onward f t nx) ≡ turned n (shift64 word t) (next_by f word next) nx
 turned_more n word next f t (next_path ps) = ap (λ k. Some (halve k (gather (shift64 word t) ps))) (let e : suc n - suc (length ps) ≡ n - length ps = omega arith in e)

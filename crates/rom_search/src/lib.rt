@@ -1,4 +1,4 @@
-// The numbers on a line.
+// The ROM search: the numbers on a line.
 #![tactic(auto)]
 
 pub mod job;

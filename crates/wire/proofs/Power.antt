@@ -5,7 +5,7 @@ use Rattle.std.proofs.lemmas.Bool.{true≢false}
 use Rattle.base.specs.Bits.{bits_all, value}
 use Rattle.base.specs.RegistrationNumbers.{word_bytes}
 use Rattle.memory.specs.Memories.{protocols}
-use Rattle.chip.specs.Chips.{Live, off, on, powered, Phase, idle, command, sending, matching, searching, rom_bit, complement, direction, selected, take_in, take_live, reset_live, run_command, command_of, Command, read_rom, match_rom, search_rom, skip_rom, resume, unknown}
+use Rattle.chip.specs.Chips.{Live, off, on, powered, Phase, idle, command, sending, matching, searching, rom_bit, complement, direction, selected, take_powered, take_live, reset_live, run_command, command_of, Command, read_rom, match_rom, search_rom, skip_rom, resume, unknown}
 use Rattle.chip.specs.ChipStates.{ChipState, has_power, is_busy, take_bit, reset_chip, dwell_chip, cut_chip}
 use Rattle.base.proofs.Choice.{pick}
 use Rattle.chip.proofs.Keeps.{number-taken}
@@ -94,7 +94,7 @@ run_command-powered skip_rom rc c = refl
 run_command-powered resume rc c = pick rc Up refl refl
 run_command-powered unknown rc c = refl
 
-in_powered : (p : Phase) (rc b : Bool) (c : ChipState) → Up (take_in protocols p rc b c)
+in_powered : (p : Phase) (rc b : Bool) (c : ChipState) → Up (take_powered protocols p rc b c)
 in_powered idle rc b c = refl
 in_powered (command bs) rc b c = pick (full (bs ++ (b ∷ []))) Up (run_command-powered (command_of (value (bs ++ (b ∷ [])))) rc c) refl
 in_powered (sending bs) rc b c = pick (none_left (rest_bits bs)) Up refl refl

@@ -21,8 +21,8 @@ abbrev pub Carried : {A : Type 0} → Counting → Result A RigFault → Type 0
 Carried d (Ok a) = Unit {0}
 Carried d (Err f) = steps_made f ≡ d.steps
 
-pub beat_carried : (p : Pulse) (d : Counting) → Carried (counted_pulse p d).0 (counted_pulse p d).1
-beat_carried p d = go (refused p d.rig.line)
+pub pulse_carried : (p : Pulse) (d : Counting) → Carried (counted_pulse p d).0 (counted_pulse p d).1
+pulse_carried p d = go (refused p d.rig.line)
   where
     beaten : Bool → Counting × Result Bool RigFault
     beaten t = elim t [ true ↦ (d, Err (LineBusy d.steps)) | false ↦ (record { rig = (pulse p d.rig).0; steps = counted d.steps }, Ok (pulse p d.rig).1) ]
@@ -51,7 +51,7 @@ kept s (Ok a) rest t h = h a s
 kept s (Err e) rest t h = t
 
 present_tallied : (e : ℕ) (d : Counting) → Tallied (present e d).0 (present e d).1
-present_tallied e d = rigs (counted_pulse reset_pulse d).0 (counted_pulse reset_pulse d).1 (λ found d. (d, cond found (Ok tt) (Err (Failed NoPresence e d.steps)))) (beat_carried reset_pulse d) go
+present_tallied e d = rigs (counted_pulse reset_pulse d).0 (counted_pulse reset_pulse d).1 (λ found d. (d, cond found (Ok tt) (Err (Failed NoPresence e d.steps)))) (pulse_carried reset_pulse d) go
   where
     go : (found : Bool) (d : Counting) → Tallied {A = Unit {0}} d (cond found (Ok tt) (Err (Failed NoPresence e d.steps)))
     go true d = tt
@@ -67,7 +67,7 @@ tells_tallied : {A : Type 0} (j : Exchange A) (d : Counting) → Tallied (tells 
 tells_tallied (answer a) d = tt
 tells_tallied (refuse w e) d = refl
 tells_tallied (opening x e k) d = kept (resets_and_matches x e d).0 (resets_and_matches x e d).1 (λ _ d. tells k d) (begins_tallied x e d) (λ _ d. tells_tallied k d)
-tells_tallied (closing k) d = rigs (counted_pulse reset_pulse d).0 (counted_pulse reset_pulse d).1 (λ b d. tells (k b) d) (beat_carried reset_pulse d) (λ b d. tells_tallied (k b) d)
+tells_tallied (closing k) d = rigs (counted_pulse reset_pulse d).0 (counted_pulse reset_pulse d).1 (λ b d. tells (k b) d) (pulse_carried reset_pulse d) (λ b d. tells_tallied (k b) d)
 tells_tallied (dwelling k) d = tells_tallied k (record { rig = (pulse dwell_pulse d.rig).0; steps = counted d.steps })
 tells_tallied (send xs k) d = rigs (does (sends xs) d).0 (does (sends xs) d).1 (λ _ d. tells k d) (does_carried (sends xs) d) (λ _ d. tells_tallied k d)
 tells_tallied (read n k) d = rigs (does (reads n) d).0 (does (reads n) d).1 (λ xs d. tells (k xs) d) (does_carried (reads n) d) (λ xs d. tells_tallied (k xs) d)

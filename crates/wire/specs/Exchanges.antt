@@ -14,17 +14,17 @@ use Rattle.wire.specs.declared.exchange_fault.ExchangeError.TheVariants.{NoPrese
 use Rattle.wire.specs.declared.exchange_fault.ExchangeFault.{ExchangeFault}
 use Rattle.wire.specs.declared.exchange_fault.ExchangeFault.TheVariants.{Rig, Failed}
 
--- the refusal's number
+-- the refusal's code
 abbrev pub error_code : ExchangeError → ℕ
 error_code NoPresence = 5
 error_code Garbled = 6
 
--- an exchange's fault with its number, its exchange and its steps
+-- an exchange's fault with its code, its exchange and its steps
 abbrev pub fault_report : {A : Type 0} → ExchangeFault → Report A
 fault_report (Rig f) = refused_as (refusal f) 0 (steps_made f)
 fault_report (Failed error e s) = refused_as (error_code error) e s
 
--- what a refused job tells, with the number of its refusal
+-- what a refused job tells, with the code of its refusal
 abbrev pub refused_report : {A : Type 0} → Refused → Report A
 refused_report r = refused_as (code_of r.refusal) r.exchange r.steps
 

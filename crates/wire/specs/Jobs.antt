@@ -43,7 +43,7 @@ module _ {A : Type 0} where
   read_bytes zero k = k []
   read_bytes (suc n) k = read_bits 8 (λ bs. read_bytes n (λ xs. k (value bs ∷ xs)))
 
--- what a job says in the end: its answer, or a refusal's number with the exchange (or pass) that met it
+-- what a job says in the end: its answer, or a refusal's code with the exchange (or pass) that met it
 pub data Said (A : Type 0) : Type 0 where
   good : A → Said A
   bad : ℕ → ℕ → Said A
@@ -51,7 +51,7 @@ pub data Said (A : Type 0) : Type 0 where
 -- what its caller is told, with the steps made; exchange 0 where the rig refused, and before any step
 pub data Report (A : Type 0) : Type 0 where
   answered : A → ℕ → Report A  -- steps
-  refused_as : ℕ → ℕ → ℕ → Report A  -- number, exchange, steps
+  refused_as : ℕ → ℕ → ℕ → Report A  -- code, exchange, steps
 
 -- the steps that it is told
 abbrev pub steps_in : {A : Type 0} → Report A → ℕ

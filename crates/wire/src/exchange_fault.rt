@@ -49,8 +49,8 @@ impl Refused {
     }
 }
 
-// The refusal that it is told as.
 impl ExchangeError {
+    // The refusal that it is told as.
     pub fn refusal(&self) -> Refusal
         ensures { code_of result ≡ error_code self.now }
     {

@@ -5,7 +5,7 @@ use Rattle.std.proofs.lemmas.Bool.{true≢false, cases_lt}
 use Rattle.base.specs.Bits.{same, bits_of}
 use Rattle.base.proofs.Choice.{pick}
 use Rattle.memory.specs.Memories.{Memory, protocols}
-use Rattle.memory.proofs.Calm.{begun_free}
+use Rattle.memory.proofs.Calm.{selected_free}
 use Rattle.chip.specs.Chips.{on, SearchPart, rom_bit, complement, direction, idle, searching, after_agreed}
 use Rattle.chip.specs.ChipStates.{ChipState, made_chip, has_power, is_busy, take_bit}
 use Rattle.line.specs.Lines.{pull, any_busy}
@@ -20,11 +20,11 @@ use Rattle.rom_search.specs.Searches.{NextPath, no_path, onward, tail_of, chosen
 use Rattle.rom_search.proofs.Enumerate.{Rests, is_nil, branch, found, next, Valid, Uniform, uniform_branch, taken, forked, valid_on}
 
 -- a chip during a pass: quiet, or with these bits still to go
-pub data Seeker : Type 0 where
-  silent : (c : ChipState) → QuietLive c.live → Seeker
-  going : ℕ → Memory → Bool → List Bool → Seeker  -- number, memory, RC
+pub data Searcher : Type 0 where
+  silent : (c : ChipState) → QuietLive c.live → Searcher
+  going : ℕ → Memory → Bool → List Bool → Searcher  -- number, memory, RC
 
-abbrev pub rests : List Seeker → Rests
+abbrev pub rests : List Searcher → Rests
 rests [] = []
 rests (silent c q ∷ D) = rests D
 rests (going x m rc bs ∷ D) = bs ∷ rests D
@@ -35,48 +35,48 @@ chip_at rom_bit x m rc bs = after_agreed protocols bs (searching rom_bit bs) rc 
 chip_at complement x m rc bs = record { number = x; live = on rc (searching complement bs); memory = m }
 chip_at direction x m rc bs = record { number = x; live = on rc (searching direction bs); memory = m }
 
-abbrev pub place : SearchPart → Seeker → ChipState
+abbrev pub place : SearchPart → Searcher → ChipState
 place t (silent c q) = c
 place t (going x m rc bs) = chip_at t x m rc bs
 
-abbrev pub line_at : SearchPart → List Seeker → List ChipState
+abbrev pub line_at : SearchPart → List Searcher → List ChipState
 line_at t D = map (place t) D
 
 -- the chips left after the master took t
-abbrev narrow1 : Bool → Seeker → Seeker
+abbrev narrow1 : Bool → Searcher → Searcher
 narrow1 t (silent c q) = silent c q
 narrow1 t (going x m rc []) = silent (record { number = x; live = on rc idle; memory = m }) tt
 narrow1 t (going x m rc (b ∷ bs)) = elim (same b t) [ true ↦ going x m rc bs | false ↦ silent (record { number = x; live = on rc idle; memory = m }) tt ]
 
-abbrev pub narrow : Bool → List Seeker → List Seeker
+abbrev pub narrow : Bool → List Searcher → List Searcher
 narrow t D = map (narrow1 t) D
 
-rests_narrow : (t : Bool) (n : ℕ) (D : List Seeker) → Uniform (suc n) (rests D) → rests (narrow t D) ≡ branch t (rests D)
+rests_narrow : (t : Bool) (n : ℕ) (D : List Searcher) → Uniform (suc n) (rests D) → rests (narrow t D) ≡ branch t (rests D)
 rests_narrow t n [] u = refl
 rests_narrow t n (silent c q ∷ D) u = rests_narrow t n D u
 rests_narrow t n (going x m rc [] ∷ D) u = absurd u
 rests_narrow t n (going x m rc (b ∷ bs) ∷ D) u =
-    elim (same b t) as (λ z. rests (elim z as (λ _. Seeker) [ true ↦ going x m rc bs | false ↦ silent (record { number = x; live = on rc idle; memory = m }) tt ] ∷ narrow t D) ≡ elim z [ true ↦ bs ∷ branch t (rests D) | false ↦ branch t (rests D) ]) [
+    elim (same b t) as (λ z. rests (elim z as (λ _. Searcher) [ true ↦ going x m rc bs | false ↦ silent (record { number = x; live = on rc idle; memory = m }) tt ] ∷ narrow t D) ≡ elim z [ true ↦ bs ∷ branch t (rests D) | false ↦ branch t (rests D) ]) [
       | true ↦ ap (λ l. bs ∷ l) (rests_narrow t n D u.1)
       | false ↦ rests_narrow t n D u.1
     ]
 
 -- what the three slots do
-pull_first : (n : ℕ) (D : List Seeker) → Uniform (suc n) (rests D) → pull (line_at rom_bit D) ≡ is_nil (branch false (rests D))
+pull_first : (n : ℕ) (D : List Searcher) → Uniform (suc n) (rests D) → pull (line_at rom_bit D) ≡ is_nil (branch false (rests D))
 pull_first n [] u = refl
 pull_first n (silent c q ∷ D) u = ap₂ (λ a b. a && b) (quiet true c q).1 (pull_first n D u)
 pull_first n (going x m rc [] ∷ D) u = absurd u
 pull_first n (going x m rc (true ∷ bs) ∷ D) u = pull_first n D u.1
 pull_first n (going x m rc (false ∷ bs) ∷ D) u = refl
 
-pull_second : (n : ℕ) (D : List Seeker) → Uniform (suc n) (rests D) → pull (line_at complement D) ≡ is_nil (branch true (rests D))
+pull_second : (n : ℕ) (D : List Searcher) → Uniform (suc n) (rests D) → pull (line_at complement D) ≡ is_nil (branch true (rests D))
 pull_second n [] u = refl
 pull_second n (silent c q ∷ D) u = ap₂ (λ a b. a && b) (quiet true c q).1 (pull_second n D u)
 pull_second n (going x m rc [] ∷ D) u = absurd u
 pull_second n (going x m rc (true ∷ bs) ∷ D) u = refl
 pull_second n (going x m rc (false ∷ bs) ∷ D) u = pull_second n D u.1
 
-pull_third : (D : List Seeker) → pull (line_at direction D) ≡ true
+pull_third : (D : List Searcher) → pull (line_at direction D) ≡ true
 pull_third [] = refl
 pull_third (silent c q ∷ D) = ap₂ (λ a b. a && b) (quiet true c q).1 (pull_third D)
 pull_third (going x m rc bs ∷ D) = pull_third D
@@ -84,28 +84,28 @@ pull_third (going x m rc bs ∷ D) = pull_third D
 take-silent : (b : Bool) (c : ChipState) (q : QuietLive c.live) → take_bit b c ≡ c
 take-silent b c q = (quiet b c q).0
 
-take_first : (b : Bool) (n : ℕ) (D : List Seeker) → Uniform (suc n) (rests D) → map (take_bit b) (line_at rom_bit D) ≡ line_at complement D
+take_first : (b : Bool) (n : ℕ) (D : List Searcher) → Uniform (suc n) (rests D) → map (take_bit b) (line_at rom_bit D) ≡ line_at complement D
 take_first b n [] u = refl
 take_first b n (silent c q ∷ D) u = ap₂ (λ d l. d ∷ l) (take-silent b c q) (take_first b n D u)
 take_first b n (going x m rc [] ∷ D) u = absurd u
 take_first b n (going x m rc (y ∷ ys) ∷ D) u = ap (λ l. place complement (going x m rc (y ∷ ys)) ∷ l) (take_first b n D u.1)
 
-take_second : (b : Bool) (n : ℕ) (D : List Seeker) → Uniform (suc n) (rests D) → map (take_bit b) (line_at complement D) ≡ line_at direction D
+take_second : (b : Bool) (n : ℕ) (D : List Searcher) → Uniform (suc n) (rests D) → map (take_bit b) (line_at complement D) ≡ line_at direction D
 take_second b n [] u = refl
 take_second b n (silent c q ∷ D) u = ap₂ (λ d l. d ∷ l) (take-silent b c q) (take_second b n D u)
 take_second b n (going x m rc [] ∷ D) u = absurd u
 take_second b n (going x m rc (y ∷ ys) ∷ D) u = ap (λ l. place direction (going x m rc (y ∷ ys)) ∷ l) (take_second b n D u.1)
 
-take_third : (t : Bool) (n : ℕ) (D : List Seeker) → Uniform (suc n) (rests D) → map (take_bit t) (line_at direction D) ≡ line_at rom_bit (narrow t D)
+take_third : (t : Bool) (n : ℕ) (D : List Searcher) → Uniform (suc n) (rests D) → map (take_bit t) (line_at direction D) ≡ line_at rom_bit (narrow t D)
 take_third t n [] u = refl
 take_third t n (silent c q ∷ D) u = ap₂ (λ d l. d ∷ l) (take-silent t c q) (take_third t n D u)
 take_third t n (going x m rc [] ∷ D) u = absurd u
 take_third t n (going x m rc (y ∷ ys) ∷ D) u =
     ap₂ (λ d l. d ∷ l)
-    (elim (same y t) as (λ z. ◌≡◌ {A = ChipState} (elim z as (λ _. ChipState) [ true ↦ chip_at rom_bit x m rc ys | false ↦ record { number = x; live = on rc idle; memory = m } ]) (place rom_bit (elim z as (λ _. Seeker) [ true ↦ going x m rc ys | false ↦ silent (record { number = x; live = on rc idle; memory = m }) tt ]))) [ true ↦ refl | false ↦ refl ])
+    (elim (same y t) as (λ z. ◌≡◌ {A = ChipState} (elim z as (λ _. ChipState) [ true ↦ chip_at rom_bit x m rc ys | false ↦ record { number = x; live = on rc idle; memory = m } ]) (place rom_bit (elim z as (λ _. Searcher) [ true ↦ going x m rc ys | false ↦ silent (record { number = x; live = on rc idle; memory = m }) tt ]))) [ true ↦ refl | false ↦ refl ])
     (take_third t n D u.1)
 
-any_busy-at : (h : SearchPart) (n : ℕ) (D : List Seeker) → Uniform (suc n) (rests D) → any_busy (line_at h D) ≡ false
+any_busy-at : (h : SearchPart) (n : ℕ) (D : List Searcher) → Uniform (suc n) (rests D) → any_busy (line_at h D) ≡ false
 any_busy-at h n [] u = refl
 any_busy-at h n (silent c q ∷ D) u = ap₂ (λ a b. a || b) (quiet true c q).2 (any_busy-at h n D u)
 any_busy-at h n (going x m rc [] ∷ D) u = absurd u
@@ -123,15 +123,15 @@ here [] = []
 here (c ∷ cs) = bits_on (has_power c) c.number (here cs)
 
 standing : (x : ℕ) (m : Memory) (rc : Bool) (bs : List Bool) → (has_power (chip_at rom_bit x m rc bs) ≡ true) × (is_busy (chip_at rom_bit x m rc bs) ≡ false) × ((chip_at rom_bit x m rc bs).number ≡ x)
-standing x m rc [] = (refl, begun_free m, refl)
+standing x m rc [] = (refl, selected_free m, refl)
 standing x m rc (b ∷ bs) = (refl, refl, refl)
 
-pub busy_any : (D : List Seeker) → any_busy (line_at rom_bit D) ≡ false
+pub busy_any : (D : List Searcher) → any_busy (line_at rom_bit D) ≡ false
 busy_any [] = refl
 busy_any (silent c q ∷ D) = ap₂ (λ a b. a || b) (quiet true c q).2 (busy_any D)
 busy_any (going x m rc bs ∷ D) = ap₂ (λ a b. a || b) (standing x m rc bs).1 (busy_any D)
 
-here_narrow : (t : Bool) (n : ℕ) (D : List Seeker) → Uniform (suc n) (rests D) → here (line_at rom_bit (narrow t D)) ≡ here (line_at rom_bit D)
+here_narrow : (t : Bool) (n : ℕ) (D : List Searcher) → Uniform (suc n) (rests D) → here (line_at rom_bit (narrow t D)) ≡ here (line_at rom_bit D)
 here_narrow t n [] u = refl
 here_narrow t n (silent c q ∷ D) u = ap (bits_on (has_power c) c.number) (here_narrow t n D u)
 here_narrow t n (going x m rc [] ∷ D) u = absurd u
@@ -154,7 +154,7 @@ module _ {A : Type 0} (lost : Job A) where
   second n path k a = step (slot_pulse true) (λ b. third n path k a b (a && b))
 
   -- one triple
-  triple : (n : ℕ) (path : List Bool) (k : List Bool → NextPath → Job A) (D : List Seeker) → Uniform (suc n) (rests D) → (is_nil (branch false (rests D)) && is_nil (branch true (rests D))) ≡ false
+  triple : (n : ℕ) (path : List Bool) (k : List Bool → NextPath → Job A) (D : List Searcher) → Uniform (suc n) (rests D) → (is_nil (branch false (rests D)) && is_nil (branch true (rests D))) ≡ false
       → Leads (triples lost (suc n) path k) (line_at rom_bit D)
       (triples lost n (tail_of path) (λ bs nx. k (taken path (rests D) ∷ bs) (onward (forked path (rests D)) (taken path (rests D)) nx))) (line_at rom_bit (narrow (taken path (rests D)) D))
   triple n path k D u e = leads_then s1 (leads_then s2 (leads_then s2' s3))
@@ -179,8 +179,8 @@ module _ {A : Type 0} (lost : Job A) where
           (leads_step (slot_pulse (taken path (rests D))) (λ _. triples lost n (tail_of path) (λ bs nx. k (taken path (rests D) ∷ bs) (onward (forked path (rests D)) (taken path (rests D)) nx))) (line_at direction D) (any_busy-at direction n D u))
 
   -- all the triples of a pass
-  pub pass_line : (n : ℕ) (path : List Bool) (k : List Bool → NextPath → Job A) (D : List Seeker) → Uniform n (rests D) → Valid n path (rests D)
-      → (D' : List Seeker) × Leads (triples lost n path k) (line_at rom_bit D) (k (found n path (rests D)) (next n path (rests D))) (line_at rom_bit D') × (here (line_at rom_bit D') ≡ here (line_at rom_bit D))
+  pub pass_line : (n : ℕ) (path : List Bool) (k : List Bool → NextPath → Job A) (D : List Searcher) → Uniform n (rests D) → Valid n path (rests D)
+      → (D' : List Searcher) × Leads (triples lost n path k) (line_at rom_bit D) (k (found n path (rests D)) (next n path (rests D))) (line_at rom_bit D') × (here (line_at rom_bit D') ≡ here (line_at rom_bit D))
   pass_line zero path k D u v = (D, leads_none, refl)
   pass_line (suc n) path k D u v =
       let w = valid_on n path (rests D) u v in
@@ -196,8 +196,8 @@ module _ {A : Type 0} (lost : Job A) where
 
 -- no slot of the triples is refused, whatever they read
 module _ {A : Type 0} (lost : Job A) (un-lost : (l : List ChipState) → Unrefused lost l) where
-  pub unrefused_triples : (n : ℕ) (path : List Bool) (k : List Bool → NextPath → Job A) (D : List Seeker) → Uniform n (rests D)
-      → ((bs : List Bool) (nx : NextPath) (D' : List Seeker) → Unrefused (k bs nx) (line_at rom_bit D')) → Unrefused (triples lost n path k) (line_at rom_bit D)
+  pub unrefused_triples : (n : ℕ) (path : List Bool) (k : List Bool → NextPath → Job A) (D : List Searcher) → Uniform n (rests D)
+      → ((bs : List Bool) (nx : NextPath) (D' : List Searcher) → Unrefused (k bs nx) (line_at rom_bit D')) → Unrefused (triples lost n path k) (line_at rom_bit D)
   unrefused_triples zero path k D u h = h [] no_path D
   unrefused_triples (suc n) path k D u h =
       let a = pull (line_at rom_bit D) in
@@ -317,9 +317,9 @@ module _ {A : Type 0} (P : A → Type 0) (lost : Job A) (pl : P (dead_run lost))
       go m u' d' h' false e = dead_step (slot_pulse false) (λ _. triples lost m (tail_of path) (λ bs nx. k (false ∷ bs) (onward false false nx))) (after_low m u' d' h' e)
 
   -- a pass, whichever step of it is cut: what k makes of the number found decides
-  pub pass_safe : (n : ℕ) (path : List Bool) (k : List Bool → NextPath → Job A) (D : List Seeker) → Uniform n (rests D) → Valid n path (rests D) → Determined n (rests D)
+  pub pass_safe : (n : ℕ) (path : List Bool) (k : List Bool → NextPath → Job A) (D : List Searcher) → Uniform n (rests D) → Valid n path (rests D) → Determined n (rests D)
       → P (dead_run (k (found n path (rests D)) (next n path (rests D))))
-      → ((D' : List Seeker) → here (line_at rom_bit D') ≡ here (line_at rom_bit D) → CutSafe P (k (found n path (rests D)) (next n path (rests D))) (line_at rom_bit D'))
+      → ((D' : List Searcher) → here (line_at rom_bit D') ≡ here (line_at rom_bit D) → CutSafe P (k (found n path (rests D)) (next n path (rests D))) (line_at rom_bit D'))
       → CutSafe P (triples lost n path k) (line_at rom_bit D)
   pass_safe zero path k D u v d h g = g D refl
   pass_safe (suc n) path k D u v d h g =
