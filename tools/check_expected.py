@@ -4,8 +4,9 @@
     python3 tools/check_expected.py --write    makes the files again
 
 The files are the programs' inputs and expected outputs: stdin and stdout in
-crates/script and crates/vectors, and stdout in crates/bench.  The gate runs
-the programs against them; this says whether they are what the model gives.
+crates/script and crates/vectors, and stdout in crates/bench and
+crates/example.  The gate runs the programs against them; this says whether
+they are what the model gives.
 
 Where the script program is built (cd crates/script && rt run < stdin), it is
 also run on a pipe, as it was last built: a letter at a time, where each must
@@ -21,6 +22,7 @@ import sys
 
 import make_bench_lines
 import make_crc_vectors
+import make_example_lines
 import make_script_cases
 from onewire_model import check_everything, script_output
 
@@ -48,6 +50,7 @@ def expected_files():
     yield "script/stdout", script_output(letters).encode("ascii")
     make_bench_lines.check_everything()
     yield "bench/stdout", text(make_bench_lines.all_lines())
+    yield "example/stdout", text(make_example_lines.all_lines())
     sums = [make_crc_vectors.vector_line(message)
             for message in make_crc_vectors.all_messages()]
     yield "vectors/stdin", text(line.split()[0] for line in sums)

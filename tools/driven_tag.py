@@ -5,10 +5,11 @@ its pulses on the model's rig.  Bytes are in hex, in the sequence of their
 travel.
 """
 
-from master_jobs import read, spaced
+from bench_words import counted, refused_words, spaced, steps_words
+from master_jobs import read
 from onewire_model import (
     Chip, LINE_BUSY, RegistrationNumber, Rig, SealedTag, bits_of_bytes, crc16,
-    one_tag, refusal_of)
+    inverted_crc16_bytes, one_tag, refusal_of)
 
 NUMBER = bytes.fromhex("2D47360000000161")
 DATA = bytes.fromhex("125A03E80BB80064")
@@ -34,7 +35,9 @@ def select(rig):
 def read_number(rig):
     begin(rig)
     write(rig, b"\x33")
-    return read(rig, 8)
+    number = read(rig, 8)
+    assert number == NUMBER
+    return number
 
 
 def write_scratchpad(rig):
@@ -50,7 +53,10 @@ def write_scratchpad(rig):
 def read_scratchpad(rig):
     select(rig)
     write(rig, b"\xAA")
-    return read(rig, 13)
+    report = read(rig, 13)
+    assert report[:11] == TARGET + b"\x07" + DATA
+    assert report[11:] == inverted_crc16_bytes(b"\xAA" + report[:11])
+    return report
 
 
 def copy_scratchpad(rig):
@@ -66,29 +72,40 @@ def copy_scratchpad(rig):
 def read_target(rig):
     select(rig)
     write(rig, b"\xF0" + TARGET)
-    return read(rig, 8)
+    found = read(rig, 8)
+    assert found == DATA
+    return found
 
 
-def driven_lines():
-    yield "The same task on a new tag, driven by pulses alone."
+def drive_tag(report):
+    report.begin("the same on a new tag, pulse by pulse, by resets, slots and"
+                 " a dwell")
     rig = Rig(one_tag(Chip(RegistrationNumber(NUMBER), SealedTag(IMAGE))))
     assert rig.reset() is False
-    yield "Reset: no presence, the tag has no power."
+    report.say("Reset: no tag is present.")
     rig.power_up()
     rig.zero_counters()
-    yield "Power-up."
-    yield f"33h: the tag says its number {spaced(read_number(rig))}."
-    yield (f"0Fh: {spaced(DATA)} sent for row 0040h,"
-           f" inverted CRC-16 {write_scratchpad(rig):04X}h is right.")
-    report = read_scratchpad(rig)
-    yield (f"AAh: address {spaced(report[:2])}, status {report[2]:02X}h,"
-           f" scratchpad {spaced(report[3:11])},"
-           f" inverted CRC-16 {spaced(report[11:])}.")
-    yield (f"55h: copy begun; a reset now is refused with"
-           f" {copy_scratchpad(rig)}.")
+    report.say("Power up: done.")
+    report.say(f"Read ROM, 33h: the tag's number is"
+               f" {spaced(read_number(rig))}.")
+    report.say(f"Write scratchpad, 0Fh, with {spaced(DATA)} for row 0040h:"
+               f" the inverted CRC-16 {write_scratchpad(rig):04X}h is right.")
+    told = read_scratchpad(rig)
+    report.say(f"Read scratchpad, AAh: address {spaced(told[:2])}, status"
+               f" {told[2]:02X}h, bytes {spaced(told[3:11])}; the inverted"
+               f" CRC-16 {int.from_bytes(told[11:], 'little'):04X}h is right.")
+    report.say(f"Copy scratchpad, 55h, and a reset then:"
+               f" {refused_words(copy_scratchpad(rig))}.")
+    report.refusals += 1
     rig.dwell()
-    yield f"Dwell: the tag says {spaced(read(rig, 1))}h."
-    yield f"F0h: row 0040h reads {spaced(read_target(rig))}."
+    said = read(rig, 1)
+    assert said == b"\xAA"
+    report.say(f"Dwell, and a byte read then: {spaced(said)}h, the tag has"
+               " programmed.")
+    report.say(f"Read memory, F0h, of row 0040h: {spaced(read_target(rig))}.")
     begin(rig)
-    yield (f"Done: row 0040h holds the clutch values, in {rig.steps} steps:"
-           f" {rig.resets} resets, {rig.dwells} dwell, {rig.slots} slots.")
+    report.pulses += rig.steps
+    report.end(f"the row read is the row written, in {steps_words(rig.steps)}:"
+               f" {counted(rig.resets, 'reset')},"
+               f" {counted(rig.dwells, 'dwell')},"
+               f" {counted(rig.slots, 'slot')}")

@@ -7,10 +7,6 @@ written here a second time, from the rules alone.
 from onewire_model import ROW_LENGTH, bits_of_bytes, bytes_of_bits
 
 
-def spaced(data):
-    return bytes(data).hex(" ").upper()
-
-
 def send(rig, data):
     """Send bytes, whatever the line makes of them."""
     for bit in bits_of_bytes(data):

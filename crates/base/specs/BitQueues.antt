@@ -7,7 +7,7 @@ abbrev pub Pushes : List Bool → Bool → List Bool → Option ℕ → Type 0
 Pushes bs b bs' None = (bs' ≡ bs ++ (b ∷ [])) × (full (bs ++ (b ∷ [])) ≡ false)
 Pushes bs b bs' (Some x) = (bs' ≡ []) × (x ≡ value (bs ++ (b ∷ []))) × (full (bs ++ (b ∷ [])) ≡ true)
 
--- the first of the bits xs gone, whatever follows them
-abbrev pub Moves : List Bool → Option (List Bool) → Type 0
-Moves xs (Some o) = (rest_bits xs ≡ o) × (none_left o ≡ false) × ((ys : List Bool) → rest_bits (xs ++ ys) ≡ o ++ ys)
-Moves xs None = (rest_bits xs ≡ []) × ((ys : List Bool) → rest_bits (xs ++ ys) ≡ ys)
+-- the first of the bits xs gone, whatever follows them; or it is the last, and stays
+abbrev pub Advances : List Bool → List Bool → Bool → Type 0
+Advances xs xs' true = (rest_bits xs ≡ xs') × (none_left xs' ≡ false) × ((ys : List Bool) → rest_bits (xs ++ ys) ≡ xs' ++ ys)
+Advances xs xs' false = (xs' ≡ xs) × (rest_bits xs ≡ []) × ((ys : List Bool) → rest_bits (xs ++ ys) ≡ ys)

@@ -1,6 +1,6 @@
 ghost use Rattle.std.specs.Prelude.{◌≡◌, ◌/◌, ◌%◌, Bool, List, [], ◌∷◌, ◌++◌};
 ghost use Rattle.base.specs.Bits.{bits_of, bits_all, front_bit};
-ghost use Rattle.base.specs.BitQueues.{Pushes, Moves};
+ghost use Rattle.base.specs.BitQueues.{Pushes, Advances};
 
 use std::marker::Model;
 
@@ -41,10 +41,8 @@ impl Incoming {
     {
         let bits = self.bits | ((bit as u8) << self.count);
         if self.count < 7 {
-            *self = Incoming {
-                bits,
-                count: self.count + 1,
-            };
+            self.bits = bits;
+            self.count += 1;
             None
         } else {
             *self = Incoming::none();
@@ -116,17 +114,16 @@ impl Outgoing {
         self.word % 2 == 1
     }
 
-    // What is left after it.
-    pub fn next(self) -> Option<Outgoing>
-        ensures { Moves self result }
+    // Moves on to the next bit. Answers whether there is one; false, with nothing changed, at the last.
+    pub fn advance(&mut self) -> bool
+        ensures { Advances self.old self.new result }
     {
         if self.left > 1 {
-            Some(Outgoing {
-                word: self.word >> 1,
-                left: self.left - 1,
-            })
+            self.word >>= 1;
+            self.left -= 1;
+            true
         } else {
-            None
+            false
         }
     }
 }

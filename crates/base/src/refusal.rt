@@ -6,23 +6,14 @@ use std::fmt;
 // Why something asked is refused.
 #[derive(Clone, Copy, Debug, PartialEq, Eq)]
 pub enum Refusal {
-    // A number whose check byte is not the sum of its other bytes.
     WrongSum = 1,
-    // An image of another length than its kind's.
     WrongLength = 2,
-    // A tag on the line is programming.
     LineBusy = 3,
-    // A row that is no multiple of eight.
     BadRow = 4,
-    // No tag answered a reset.
     NoPresence = 5,
-    // What came back is not what a tag sends.
     Garbled = 6,
-    // The scratchpad differs from the data sent.
     DataDiffer = 7,
-    // The row found differs from the row ordered.
     NotHeld = 8,
-    // No place is left for a number.
     NoPlace = 9,
 }
 
@@ -32,11 +23,27 @@ impl Refusal {
     {
         *self as u8
     }
+
+    fn meaning(&self) -> &'static str {
+        match self {
+            Refusal::WrongSum => "the check byte is wrong",
+            Refusal::WrongLength => "the image is not of the kind's length",
+            Refusal::LineBusy => "a tag on the line is programming",
+            Refusal::BadRow => "the row is not a multiple of 8",
+            Refusal::NoPresence => "no tag answers the reset",
+            Refusal::Garbled => "what came back is not what a tag sends",
+            Refusal::DataDiffer => "the scratchpad differs from the data sent",
+            Refusal::NotHeld => "the row found differs from the row ordered",
+            Refusal::NoPlace => "no place is left for a number",
+        }
+    }
 }
 
+// Its code and what it means, in the words of its rule.
 impl fmt::Display for Refusal {
     fn fmt<W: fmt::Write>(&self, f: &mut fmt::Formatter<W>) -> fmt::Result {
         let code = self.code();
-        write!(f, "{code}")
+        let meaning = self.meaning();
+        write!(f, "{code}, {meaning}")
     }
 }

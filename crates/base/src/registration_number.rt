@@ -5,7 +5,7 @@ pub mod making;
 
 // A registration number: family code, six serial bytes and the CRC-8 of those seven, the family code in the lowest byte.
 // Whoever holds one learns from its ghost fields that its check byte is right.
-#[derive(Clone, Copy)]
+#[derive(Clone, Copy, Debug, PartialEq, Eq)]
 pub struct RegistrationNumber {
     word: u64,
     ghost checked: { IsChecked word },

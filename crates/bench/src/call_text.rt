@@ -1,50 +1,60 @@
-use base::RegistrationNumber;
+use crate::counted::Counted;
+use base::{Hex, RegistrationNumber};
 use history::Call;
 use kinds::row::ROW;
 use rig::Fuse;
-use samples::hex::Hex;
 use std::fmt;
 
-// What was asked. A call is data: one arm for each.
+// What is asked. A call is data: one arm for each.
 #[derive(Clone, Copy)]
-pub struct Asked(pub Call);
+pub struct CallText(pub Call);
 
-impl fmt::Display for Asked {
+impl fmt::Display for CallText {
     fn fmt<W: fmt::Write>(&self, f: &mut fmt::Formatter<W>) -> fmt::Result {
         match self.0 {
             Call::Reset => f.write_str("Reset"),
             Call::Slot(false) => f.write_str("Slot with 0"),
             Call::Slot(true) => f.write_str("Slot with 1"),
             Call::Dwell => f.write_str("Dwell"),
-            Call::Cut(mask) => write!(f, "Cut with mask {}", Hex(&mask.to_le_bytes())),
-            Call::PowerUp => f.write_str("Power-up"),
-            Call::SetFuse(Fuse { count, mask }) => {
+            Call::Cut(mask) => write!(f, "Cut power with mask {}", Hex(&mask.to_le_bytes())),
+            Call::PowerUp => f.write_str("Power up"),
+            Call::SetFuse(fuse) => say_fuse(f, fuse),
+            Call::Search { places } => {
+                let places = Counted(places, "place");
                 write!(
                     f,
-                    "Fuse of {count} steps with mask {}",
-                    Hex(&mask.to_le_bytes())
+                    "Search for the numbers on the line, with {places} for them"
                 )
             }
-            Call::Search { places } => write!(f, "Search with a list of {places}"),
             Call::Read { number, row } => {
-                write!(f, "Reading of row {row:04X}h of {}", Hex(&number.bytes()))
+                write!(f, "Read row {row:04X}h of tag {}", Hex(&number.bytes()))
             }
-            Call::Order { number, row, new } => ask_order(f, number, row, new),
+            Call::Order { number, row, new } => say_order(f, number, row, new),
         }
     }
 }
 
-fn ask_order<W: fmt::Write>(
+// A fuse at 0 cuts power at the very next step.
+fn say_fuse<W: fmt::Write>(f: &mut fmt::Formatter<W>, fuse: Fuse) -> fmt::Result {
+    let step = fuse.count as u64 + 1;
+    write!(
+        f,
+        "Set the fuse so that power will fail at step {step} from now, with mask {}",
+        Hex(&fuse.mask.to_le_bytes())
+    )
+}
+
+fn say_order<W: fmt::Write>(
     f: &mut fmt::Formatter<W>,
     number: RegistrationNumber,
     row: u16,
     new: [u8; ROW],
 ) -> fmt::Result {
-    let of = number.bytes();
+    let tag = number.bytes();
     write!(
         f,
-        "Order of {} to row {row:04X}h of {}",
+        "Order to write {} to row {row:04X}h of tag {}",
         Hex(&new),
-        Hex(&of)
+        Hex(&tag)
     )
 }

@@ -3,19 +3,30 @@
 mod answer_text;
 mod by_pulses;
 mod call_text;
-mod fault;
-mod lines;
+mod calls;
+mod counted;
+mod crowd;
+mod edge_orders;
+mod expected;
+mod found;
+mod gearbox;
+mod making;
+mod pair;
 mod pulses;
-mod runs;
+mod report;
 mod session;
-mod texts;
 
-// Runs whole tasks and their edge cases on tags played in software, and says in plain words what was asked and answered.
+use report::Report;
+
+// Runs whole tasks and their edge cases on tags played in software, and says in plain words what was asked, answered and accomplished.
 fn main(rt: HostRuntime) -> anyhow::Result<()> {
-    lines::gearbox(&rt)?;
-    by_pulses::run(&rt)?;
-    lines::edges(&rt)?;
-    lines::masks(&rt)?;
-    lines::pair(&rt)?;
-    lines::many(&rt)
+    let report = Report::open(&rt)?;
+    let report = making::run(report)?;
+    let report = gearbox::run(report)?;
+    let report = by_pulses::run(report)?;
+    let report = edge_orders::run(report)?;
+    let report = pair::run(report)?;
+    let report = crowd::run(report)?;
+    report.sum_up()?;
+    Ok(())
 }

@@ -109,6 +109,7 @@ impl<P: Protocol> Chip<P> {
     }
 
     // One taken bit.
+    #[inline(always)]
     pub fn take(&mut self, bit: bool)
         ensures { model P.memory self.new ≡ take_bit bit (model P.memory self.old) }
     {
@@ -121,14 +122,17 @@ impl<P: Protocol> Chip<P> {
                 None => self.enter(rc, Command { bits }),
                 Some(byte) => self.run_command(rc, byte),
             },
-            (SendRom { rest }, _) => match rest.next() {
-                Some(rest) => self.enter(rc, SendRom { rest }),
-                None => self.select(rc),
-            },
-            (MatchBits { rest }, bit) => {
+            (SendRom { mut rest }, _) => {
+                if rest.advance() {
+                    self.enter(rc, SendRom { rest });
+                } else {
+                    self.select(rc);
+                }
+            }
+            (MatchBits { mut rest }, bit) => {
                 if rest.bit() != bit {
                     self.enter(rc, Idle);
-                } else if let Some(rest) = rest.next() {
+                } else if rest.advance() {
                     self.enter(rc, MatchBits { rest });
                 } else {
                     self.select(true);
@@ -136,10 +140,10 @@ impl<P: Protocol> Chip<P> {
             }
             (SearchBit { rest }, _) => self.enter(rc, SearchComplement { rest }),
             (SearchComplement { rest }, _) => self.enter(rc, SearchDirection { rest }),
-            (SearchDirection { rest }, bit) => {
+            (SearchDirection { mut rest }, bit) => {
                 if rest.bit() != bit {
                     self.enter(rc, Idle);
-                } else if let Some(rest) = rest.next() {
+                } else if rest.advance() {
                     self.enter(rc, SearchBit { rest });
                 } else {
                     self.select(true);

@@ -7,7 +7,7 @@ use rom_search::SearchFault;
 use rom_search::job::MOST_PLACES;
 
 // What a rig can be asked; number and row apart, as the jobs take them.
-#[derive(Clone, Copy)]
+#[derive(Clone, Copy, Debug, PartialEq, Eq)]
 pub enum Call {
     Reset,
     Slot(bool),
@@ -32,7 +32,7 @@ pub enum Call {
 }
 
 // What it answers; a search with its list.
-#[derive(Clone, Copy)]
+#[derive(Clone, Copy, Debug, PartialEq, Eq)]
 pub enum Answer {
     // The refusal alone: the count of steps that the rig's fault carries is the rig's own.
     Presence(Result<bool, Refusal>),

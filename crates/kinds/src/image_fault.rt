@@ -3,6 +3,8 @@ ghost use Rattle.base.specs.Refusals.{code_of};
 ghost use Rattle.kinds.specs.ImageMaking.{refusal};
 
 use base::Refusal;
+use std::error::Error;
+use std::fmt;
 
 // Why no tag is made.
 #[derive(Clone, Copy, Debug, PartialEq, Eq)]
@@ -20,3 +22,12 @@ impl ImageFault {
         }
     }
 }
+
+impl fmt::Display for ImageFault {
+    fn fmt<W: fmt::Write>(&self, f: &mut fmt::Formatter<W>) -> fmt::Result {
+        let refusal = self.refusal();
+        write!(f, "{refusal}")
+    }
+}
+
+impl Error for ImageFault {}

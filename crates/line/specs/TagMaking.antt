@@ -1,4 +1,4 @@
--- Making a tag in a lent place.
+-- Making a tag, in a lent place or given back.
 use Rattle.std.specs.Prelude.{◌≡◌, ℕ, ◌^◌, ◌<◌, true, false, List, length, Some, None, Ok, Err, Option, Result, ◌==◌}
 use Rattle.base.specs.RegistrationNumbers.{IsChecked}
 use Rattle.kinds.specs.Kinds.{Rules, Lawful, Bytes}
@@ -21,13 +21,22 @@ placing K number image held =
     elim (length image == K.image) [ true ↦ (Some (made_tag K number image), None) | false ↦ (held, Some 2) ]
 
 module _ {P : Type 0} (memory : P → Memory) where
+  -- the chip of a tag of the code
+  abbrev pub chip_in : OneTag P → ChipState
+  chip_in t = model memory t.chip
+
   abbrev pub place_of : Option (OneTag P) → Option ChipState
   place_of None = None
-  place_of (Some t) = Some (model memory t.chip)
+  place_of (Some t) = Some (chip_in t)
 
 abbrev pub answer_of : Result (Unit {0}) ImageFault → Option ℕ
 answer_of (Ok u) = None
 answer_of (Err e) = Some (refusal e)
+
+-- what is given back: the chip of a tag that was made, or the refusal's code
+abbrev pub given : {T : Type 0} → (T → ChipState) → Result T ImageFault → Option ChipState × Option ℕ
+given chip (Ok t) = (Some (chip t), None)
+given chip (Err e) = (None, Some (refusal e))
 
 -- a tag made from a registration number, a lawful kind and an image of its length has met nothing yet, and has a scratchpad
 abbrev pub MadeMet : Type 0

@@ -31,6 +31,7 @@ impl<P: Protocol> Line for OneTag<P> {
         self.chip.reset();
     }
 
+    #[inline(always)]
     fn take(&mut self, bit: bool) {
         self.chip.take(bit);
     }

@@ -1,7 +1,7 @@
-ghost use Rattle.std.specs.Prelude.{◌≡◌, OnErr};
+ghost use Rattle.std.specs.Prelude.{◌≡◌, OnErr, None};
 ghost use Rattle.memory.specs.Memories.{padded};
 ghost use Rattle.memory.specs.ScratchpadModel.{model};
-ghost use Rattle.line.specs.TagMaking.{placing, place_of, answer_of, MadeMet};
+ghost use Rattle.line.specs.TagMaking.{placing, place_of, answer_of, chip_in, given, MadeMet};
 
 use crate::one_tag::OneTag;
 use base::RegistrationNumber;
@@ -20,7 +20,18 @@ pub fn make_tag<K: Kind + Drop>(
     ensures kept { OnErr result (place.new ≡ place.old) }
     ensures met { MadeMet }
 {
-    let kind = K::from_image(image)?;
-    *place = Some(OneTag::new(number, ScratchpadMemory::new(kind)));
+    *place = Some(tag_of(number, image)?);
     Ok(())
+}
+
+// A tag with its number and the bytes of an image, without power.
+// Refusal 2 where the image is not of the kind's length; no tag is then made.
+pub fn tag_of<K: Kind>(
+    number: RegistrationNumber,
+    image: &[u8],
+) -> Result<OneTag<ScratchpadMemory<K>>, ImageFault>
+    ensures { given (chip_in (λ p. padded (model K.rules K.bytes p))) result ≡ placing K.rules number.word image.now None }
+{
+    let kind = K::from_image(image)?;
+    Ok(OneTag::new(number, ScratchpadMemory::new(kind)))
 }

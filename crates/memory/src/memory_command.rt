@@ -2,6 +2,8 @@ ghost use Rattle.std.specs.Prelude.{◌≡◌};
 ghost use Rattle.memory.specs.Scratchpads.{command_of};
 ghost use Rattle.memory.specs.MemoryCommands.{byte_of, meant, TakenFor};
 
+use std::fmt;
+
 // The commands of the memory phase, each with its byte.
 #[derive(Clone, Copy, Debug, PartialEq, Eq)]
 pub enum MemoryCommand {
@@ -37,5 +39,17 @@ impl TryFrom<u8> for MemoryCommand {
             0xF0 => Ok(MemoryCommand::ReadMemory),
             _ => Err(UnknownCommand(byte)),
         }
+    }
+}
+
+// What it does, as a master asks it.
+impl fmt::Display for MemoryCommand {
+    fn fmt<W: fmt::Write>(&self, f: &mut fmt::Formatter<W>) -> fmt::Result {
+        f.write_str(match self {
+            MemoryCommand::WriteScratchpad => "write scratchpad",
+            MemoryCommand::ReadScratchpad => "read scratchpad",
+            MemoryCommand::CopyScratchpad => "copy scratchpad",
+            MemoryCommand::ReadMemory => "read memory",
+        })
     }
 }

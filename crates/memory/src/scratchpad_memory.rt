@@ -2,7 +2,7 @@ ghost use Rattle.std.specs.Prelude.{◌≡◌, [], ◌∷◌, drop};
 ghost use Rattle.base.specs.Bits.{bits_all};
 ghost use Rattle.base.specs.Crc.{crc16};
 ghost use Rattle.memory.specs.Memories.{padded};
-ghost use Rattle.memory.specs.Scratchpads.{cut_pad, fresh, on, sending, idle, working, take_pad, take_byte, command_of, run_command, load_data, report};
+ghost use Rattle.memory.specs.Scratchpads.{cut_pad, fresh, on, sending, idle, working, take_byte, command_of, run_command, load_data, report};
 ghost use Rattle.memory.specs.RegistersModel.{regs_of};
 ghost use Rattle.memory.specs.ScratchpadModel.{model, doing, closing, Awaits, awaited};
 
@@ -44,32 +44,6 @@ impl<K: Kind> ScratchpadMemory<K> {
             let row = self.regs.row();
             let new = self.regs.pad;
             self.kind.program(row, &new, mask);
-        }
-    }
-
-    // One taken bit.
-    fn bit(&mut self, bit: bool)
-        ensures { model K.rules K.bytes self.new ≡ take_pad (model K.rules K.bytes self.old) bit }
-    {
-        match (self.phase, bit) {
-            (Phase::Idle | Phase::Programming | Phase::SendOnes, _) => {}
-            (Phase::Taking { what, mut bits }, b) => match bits.push(b) {
-                None => self.phase = Phase::Taking { what, bits },
-                Some(byte) => self.take_byte(what, byte),
-            },
-            (Phase::SendReport { next, sum, out }, _) => match out.next() {
-                Some(out) => self.phase = Phase::SendReport { next, sum, out },
-                None => self.phase = self.report_from(next, sum),
-            },
-            (Phase::SendSum { rest }, _) => match rest.next() {
-                Some(rest) => self.phase = Phase::SendSum { rest },
-                None => self.phase = Phase::SendOnes,
-            },
-            (Phase::SendMemory { next, out }, _) => match out.next() {
-                Some(out) => self.phase = Phase::SendMemory { next, out },
-                None => self.phase = self.memory_from(next),
-            },
-            (Phase::Alternating { bit: sent }, _) => self.phase = Phase::Alternating { bit: !sent },
         }
     }
 
@@ -213,8 +187,35 @@ impl<K: Kind> Protocol for ScratchpadMemory<K> {
         self.phase = awaiting(Await::Command);
     }
 
+    #[inline(always)]
     fn take(&mut self, bit: bool) {
-        self.bit(bit);
+        match (&mut self.phase, bit) {
+            (Phase::Idle | Phase::Programming | Phase::SendOnes, _) => {}
+            (Phase::Taking { what, bits }, bit) => {
+                if let Some(byte) = bits.push(bit) {
+                    let what = *what;
+                    self.take_byte(what, byte);
+                }
+            }
+            (Phase::SendReport { next, sum, out }, _) => {
+                if !out.advance() {
+                    let (next, sum) = (*next, *sum);
+                    self.phase = self.report_from(next, sum);
+                }
+            }
+            (Phase::SendSum { rest }, _) => {
+                if !rest.advance() {
+                    self.phase = Phase::SendOnes;
+                }
+            }
+            (Phase::SendMemory { next, out }, _) => {
+                if !out.advance() {
+                    let next = *next;
+                    self.phase = self.memory_from(next);
+                }
+            }
+            (Phase::Alternating { bit: sent }, _) => *sent = !*sent,
+        }
     }
 
     fn pull(&self) -> bool {

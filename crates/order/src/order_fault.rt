@@ -3,7 +3,19 @@ ghost use Rattle.order.specs.OrderOutcomes.{order_verdict, refused_by};
 ghost use Rattle.order.specs.declared.order_fault.OrderFault.TheVariants.{Exchange};
 
 use base::Refusal;
-use wire::{ExchangeFault, Refused};
+use memory::MemoryCommand;
+use std::error::Error;
+use std::fmt;
+use wire::{ExchangeFault, ExchangeName, Refused, RefusedJob};
+
+// The exchanges of an order, from the first on.
+const EXCHANGES: [ExchangeName; 5] = [
+    ExchangeName::Command(MemoryCommand::WriteScratchpad),
+    ExchangeName::Command(MemoryCommand::ReadScratchpad),
+    ExchangeName::Command(MemoryCommand::CopyScratchpad),
+    ExchangeName::Command(MemoryCommand::ReadMemory),
+    ExchangeName::ClosingReset,
+];
 
 // Why an order was refused or failed.
 #[derive(Clone, Copy, Debug, PartialEq, Eq)]
@@ -51,3 +63,21 @@ impl From<ExchangeFault> for OrderFault {
         OrderFault::Exchange(e)
     }
 }
+
+impl fmt::Display for OrderFault {
+    fn fmt<W: fmt::Write>(&self, f: &mut fmt::Formatter<W>) -> fmt::Result {
+        let (refused, difference) = self.refused();
+        let words = RefusedJob {
+            refused,
+            unit: "exchange",
+            names: &EXCHANGES,
+        };
+        write!(f, "{words}")?;
+        match difference {
+            None => Ok(()),
+            Some(index) => write!(f, "; first difference at index {index}"),
+        }
+    }
+}
+
+impl Error for OrderFault {}

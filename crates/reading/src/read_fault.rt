@@ -5,7 +5,17 @@ ghost use Rattle.reading.specs.ReadOutcomes.{read_report};
 ghost use Rattle.reading.specs.declared.read_fault.ReadFault.TheVariants.{Exchange};
 
 use base::Refusal;
-use wire::{ExchangeFault, Refused};
+use memory::MemoryCommand;
+use std::error::Error;
+use std::fmt;
+use wire::{ExchangeFault, ExchangeName, Refused, RefusedJob};
+
+// The exchanges of a reading, from the first on.
+const EXCHANGES: [ExchangeName; 3] = [
+    ExchangeName::Command(MemoryCommand::ReadScratchpad),
+    ExchangeName::Command(MemoryCommand::ReadMemory),
+    ExchangeName::ClosingReset,
+];
 
 // Why a reading was refused or failed.
 #[derive(Clone, Copy, Debug, PartialEq, Eq)]
@@ -33,3 +43,16 @@ impl From<ExchangeFault> for ReadFault {
         ReadFault::Exchange(e)
     }
 }
+
+impl fmt::Display for ReadFault {
+    fn fmt<W: fmt::Write>(&self, f: &mut fmt::Formatter<W>) -> fmt::Result {
+        let words = RefusedJob {
+            refused: self.refused(),
+            unit: "exchange",
+            names: &EXCHANGES,
+        };
+        write!(f, "{words}")
+    }
+}
+
+impl Error for ReadFault {}

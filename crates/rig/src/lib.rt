@@ -3,6 +3,8 @@
 
 pub mod rig;
 pub mod rig_fault;
+pub mod steps;
 
 pub use rig::{Fuse, Rig};
 pub use rig_fault::RigFault;
+pub use steps::{AfterSteps, Steps};

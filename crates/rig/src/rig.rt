@@ -1,5 +1,4 @@
 ghost use Rattle.std.specs.Prelude.{◌≡◌, true, false};
-ghost use Rattle.std.specs.Fn.{FnOnceReturnsAtMut};
 ghost use Rattle.rig.specs.Rigs.{reset_pulse, slot_pulse, dwell_pulse, pulse, made_rig, cut_rig, power_rig, set_fuse, counted};
 ghost use Rattle.rig.specs.RigModel.{rig_of, counting, CountBegins, counted_pulse, cuts_now, lowered_fuse, cut_by};
 
@@ -37,6 +36,27 @@ impl<L: Line> Rig<L> {
         ensures { result ≡ (counting L.chips self.now).steps }
     {
         self.steps
+    }
+
+    // The line, lent, so that it can be asked without a step.
+    pub fn line(&self) -> &L
+        ensures { result.now ≡ self.now.line }
+    {
+        &self.line
+    }
+
+    // Gives the line back as it stands; the fuse and the count of steps go with the rig.
+    pub fn into_line(self) -> L
+        ensures { result ≡ self.line }
+    {
+        self.line
+    }
+
+    // The fuse that is set, with the steps that it still lets pass.
+    pub fn fuse(&self) -> Option<Fuse>
+        ensures { result ≡ self.now.fuse }
+    {
+        self.fuse
     }
 
     // Sets the steps to 0.
@@ -102,21 +122,6 @@ impl<L: Line> Rig<L> {
         }
     }
 
-    // A step: the line is driven and answers; or the step becomes a cut, which is answered by `if_cut`.
-    fn step<F: FnOnce(&mut L) -> bool>(&mut self, if_cut: bool, on_line: F) -> bool
-        requires { F.IsAlwaysCallable on_line }
-        ensures fuse { self.new.fuse ≡ lowered_fuse self.old.fuse }
-        ensures steps { self.new.steps ≡ counted self.old.steps }
-        ensures cut { cuts_now self.old.fuse ≡ true → (result ≡ if_cut) × (L.chips self.new.line ≡ cut_by self.old.fuse (L.chips self.old.line)) }
-        ensures driven { cuts_now self.old.fuse ≡ false → FnOnceReturnsAtMut F.FnOnce on_line self.old.line result self.new.line }
-    {
-        if self.count_step() {
-            if_cut
-        } else {
-            on_line(&mut self.line)
-        }
-    }
-
     // Presence; refusal 3 while the line is busy.
     pub fn reset(&mut self) -> Result<bool, RigFault>
         ensures { (counting L.chips self.new, result) ≡ counted_pulse reset_pulse (counting L.chips self.old) }
@@ -124,33 +129,35 @@ impl<L: Line> Rig<L> {
         if self.line.is_busy() {
             return Err(RigFault::LineBusy { steps: self.steps });
         }
-        Ok(self.step(false, |line| {
-            let present = line.presence();
-            line.reset();
-            present
-        }))
+        if self.count_step() {
+            return Ok(false);
+        }
+        let present = self.line.presence();
+        self.line.reset();
+        Ok(present)
     }
 
     // The master's bit AND the pull, which the line takes; refusal 3 while the line is busy.
+    #[inline(always)]
     pub fn slot(&mut self, bit: bool) -> Result<bool, RigFault>
         ensures { (counting L.chips self.new, result) ≡ counted_pulse (slot_pulse bit) (counting L.chips self.old) }
     {
         if self.line.is_busy() {
             return Err(RigFault::LineBusy { steps: self.steps });
         }
-        Ok(self.step(bit, |line| {
-            let seen = bit & line.pull();
-            line.take(seen);
-            seen
-        }))
+        if self.count_step() {
+            return Ok(bit);
+        }
+        let seen = bit & self.line.pull();
+        self.line.take(seen);
+        Ok(seen)
     }
 
     pub fn dwell(&mut self)
         ensures { counting L.chips self.new ≡ record { rig = (pulse dwell_pulse (rig_of L.chips self.old)).0; steps = counted self.old.steps } }
     {
-        self.step(true, |line| {
-            line.dwell();
-            true
-        });
+        if !self.count_step() {
+            self.line.dwell();
+        }
     }
 }

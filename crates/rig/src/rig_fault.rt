@@ -2,7 +2,10 @@ ghost use Rattle.std.specs.Prelude.{◌≡◌};
 ghost use Rattle.base.specs.Refusals.{code_of};
 ghost use Rattle.rig.specs.RigModel.{refusal, steps_made};
 
+use crate::steps::AfterSteps;
 use base::Refusal;
+use std::error::Error;
+use std::fmt;
 
 // Why a rig refuses a pulse.
 #[derive(Clone, Copy, Debug, PartialEq, Eq)]
@@ -30,3 +33,13 @@ impl RigFault {
         }
     }
 }
+
+impl fmt::Display for RigFault {
+    fn fmt<W: fmt::Write>(&self, f: &mut fmt::Formatter<W>) -> fmt::Result {
+        let refusal = self.refusal();
+        let after = AfterSteps(self.steps());
+        write!(f, "{refusal}; {after}")
+    }
+}
+
+impl Error for RigFault {}

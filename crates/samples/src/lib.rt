@@ -2,8 +2,6 @@
 #![tactic(auto)]
 
 pub mod fault;
-pub mod hex;
 pub mod numbers;
 pub mod plugs;
-pub mod refused;
 pub mod tags;

@@ -17,7 +17,7 @@ pub type Plug = Tag<PracticePlug>;
 pub const MANY: usize = 65;
 
 // The family code of these plugs.
-const FAMILY: u8 = 0x2D;
+pub const FAMILY: u8 = 0x2D;
 
 fn word_of(serial: u8) -> u64
     ensures value { result ≡ plug_word serial }

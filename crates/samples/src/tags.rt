@@ -7,8 +7,7 @@ ghost use Rattle.line.specs.TagMaking.{made_tag};
 use crate::fault::SampleFault;
 use base::RegistrationNumber;
 use kinds::Kind;
-use line::OneTag;
-use line::tag_making::make_tag;
+use line::{OneTag, tag_making};
 use memory::ScratchpadMemory;
 use std::array;
 
@@ -24,9 +23,7 @@ pub fn tag_of<K: Kind + Drop>(
     ensures ok { IsOk result ↔ (length image.now ≡ K.rules.image) }
     ensures err { IfErr result (λ e. e ≡ SampleFault.NoTag) }
 {
-    let mut place = None;
-    make_tag(&mut place, number, image)?;
-    place.ok_or(SampleFault::NoTag)
+    Ok(tag_making::tag_of(number, image)?)
 }
 
 // An image of a sealed tag in which each byte is its own address.

@@ -7,7 +7,9 @@ ghost use Rattle.wire.specs.declared.exchange_fault.ExchangeFault.TheVariants.{R
 
 use base::Refusal;
 use line::Line;
-use rig::{Rig, RigFault};
+use rig::{AfterSteps, Rig, RigFault};
+use std::error::Error;
+use std::fmt;
 
 // What an exchange found wrong.
 #[derive(Clone, Copy, Debug, PartialEq, Eq)]
@@ -102,3 +104,22 @@ impl From<RigFault> for ExchangeFault {
         ExchangeFault::Rig(e)
     }
 }
+
+impl fmt::Display for ExchangeError {
+    fn fmt<W: fmt::Write>(&self, f: &mut fmt::Formatter<W>) -> fmt::Result {
+        let refusal = self.refusal();
+        write!(f, "{refusal}")
+    }
+}
+
+impl Error for ExchangeError {}
+
+// Its exchange is worded by the fault of the job, which knows what it is called.
+impl fmt::Display for ExchangeFault {
+    fn fmt<W: fmt::Write>(&self, f: &mut fmt::Formatter<W>) -> fmt::Result {
+        let Refused { refusal, steps, .. } = self.refused();
+        write!(f, "{refusal}; {}", AfterSteps(steps))
+    }
+}
+
+impl Error for ExchangeFault {}

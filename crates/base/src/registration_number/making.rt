@@ -5,8 +5,11 @@ ghost use Rattle.base.specs.RegistrationNumbers.{IsChecked, checks, making, word
 ghost use Rattle.base.specs.NumberMaking.{made_of, refusal};
 
 use crate::crc::crc8;
+use crate::hex::Hex;
 use crate::refusal::Refusal;
 use crate::registration_number::{RegistrationNumber, RegistrationNumberFault};
+use std::error::Error;
+use std::fmt;
 
 // The check byte is the CRC-8 of the seven bytes before it.
 fn right_sum(word: u64) -> bool
@@ -54,6 +57,15 @@ impl RegistrationNumber {
     }
 }
 
+// Its eight bytes in hexadecimal, in the sequence in which they travel.
+impl fmt::Display for RegistrationNumber {
+    fn fmt<W: fmt::Write>(&self, f: &mut fmt::Formatter<W>) -> fmt::Result {
+        let bytes = self.bytes();
+        let hex = Hex(&bytes);
+        write!(f, "{hex}")
+    }
+}
+
 impl RegistrationNumberFault {
     // The refusal that it is told as.
     pub fn refusal(&self) -> Refusal
@@ -64,3 +76,12 @@ impl RegistrationNumberFault {
         }
     }
 }
+
+impl fmt::Display for RegistrationNumberFault {
+    fn fmt<W: fmt::Write>(&self, f: &mut fmt::Formatter<W>) -> fmt::Result {
+        let refusal = self.refusal();
+        write!(f, "{refusal}")
+    }
+}
+
+impl Error for RegistrationNumberFault {}

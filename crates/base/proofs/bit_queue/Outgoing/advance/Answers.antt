@@ -1,7 +1,7 @@
 use Rattle.std.proofs.Common.{◌++◌, ap, ◌∙◌, arith}
 use Rattle.base.specs.Bits.{bits_of}
 use Rattle.base.proofs.Queues.{bits_rest, bits_left, rest_ahead}
-use Rattle.base.proofs.bit_queue.Outgoing.next.Goals as goal
+use Rattle.base.proofs.bit_queue.Outgoing.advance.Goals as goal
 
 pub returns-then-self-gt1 : goal.returns-then-self-gt1
 returns-then-self-gt1 c =
