@@ -6,7 +6,7 @@ use mir.Val.{bool_byte}
 use Rattle.std.proofs.lemmas.Bool.Decides.{nat_tests}
 use Rattle.std.proofs.lemmas.Bool.{eq-eqb, ne_eqb}
 use Rattle.base.specs.Widths.{length_bits}
-use Rattle.base.specs.Bits.{odd, bits_of, bit, value, bits_all, full, rest_bits, none_left}
+use Rattle.base.specs.Bits.{odd, bits_of, bit, value, bits_all, full, front_bit, rest_bits, none_left}
 
 odd-bit : (b : Bool) (n : ℕ) → odd (bit b + 2 * n) ≡ b
 odd-bit true n = eq-eqb _ _ (omega arith)
@@ -49,6 +49,11 @@ top_small n x false s = rw add-one (omega (arith, double n))
 
 pub length_pushed : (n x : ℕ) (b : Bool) → length (bits_of n x ++ (b ∷ [])) ≡ n + 1
 length_pushed n x b = simp (length-append, length_bits)
+
+-- a queue of more than no bits
+pub bits_front : (n x : ℕ) → 0 < n → front_bit (bits_of n x) ≡ odd x
+bits_front zero x h = absurd (omega arith)
+bits_front (suc n) x h = refl
 
 pub bits_rest : (n x : ℕ) → rest_bits (bits_of n x) ≡ bits_of (n - 1) (x / 2)
 bits_rest zero x = refl
@@ -93,6 +98,10 @@ two_bytes x =
 
 true_not_false : true ≡ false → ⊥
 true_not_false h = let z : ◌≡◌ {A = ℕ} 0 1 = cc in omega arith
+
+pub front_ahead : (xs ys : List Bool) → none_left xs ≡ false → front_bit (xs ++ ys) ≡ front_bit xs
+front_ahead [] ys h = absurd (true_not_false h)
+front_ahead (x ∷ xs) ys h = refl
 
 pub rest_ahead : (xs ys : List Bool) → none_left xs ≡ false → rest_bits (xs ++ ys) ≡ rest_bits xs ++ ys
 rest_ahead [] ys h = absurd (true_not_false h)

@@ -14,7 +14,3 @@ value_bits (suc n) x h = let ih : value (bits_of n (x / 2)) ≡ x / 2 = value_bi
 pub length_bits : (n x : ℕ) → length (bits_of n x) ≡ n
 length_bits zero x = refl
 length_bits (suc n) x = ap suc (length_bits n (x / 2))
-
--- what is made of a word and its width is made again of their bits
-pub kept : {R : Type 0} (make : ℕ → ℕ → R) (n x : ℕ) → x < 2 ^ n → make (value (bits_of n x)) (length (bits_of n x)) ≡ make x n
-kept make n x h = rw (value_bits n x h, length_bits n x)

@@ -1,5 +1,6 @@
 -- What a chip of the code means.
 use Rattle.std.specs.Prelude.{Some, None, Option}
+use Rattle.base.specs.BitQueues.{arrived, queue}
 use Rattle.memory.specs.Memories.{Memory}
 use Rattle.chip.specs.Chips.{Live as LiveState, off, on, Phase, idle, command, sending, matching, searching, rom_bit, complement, direction, selected}
 use Rattle.chip.specs.ChipStates.{ChipState}
@@ -10,12 +11,12 @@ use Rattle.chip.specs.declared.chip.Chip.{Chip}
 
 abbrev pub phase_of : RomPhase → Phase
 phase_of Idle = idle
-phase_of (Command bits) = command bits
-phase_of (SendRom rest) = sending rest
-phase_of (MatchBits rest) = matching rest
-phase_of (SearchBit rest) = searching rom_bit rest
-phase_of (SearchComplement rest) = searching complement rest
-phase_of (SearchDirection rest) = searching direction rest
+phase_of (Command bits) = command (arrived bits)
+phase_of (SendRom rest) = sending (queue rest)
+phase_of (MatchBits rest) = matching (queue rest)
+phase_of (SearchBit rest) = searching rom_bit (queue rest)
+phase_of (SearchComplement rest) = searching complement (queue rest)
+phase_of (SearchDirection rest) = searching direction (queue rest)
 phase_of Selected = selected
 
 -- without power nothing is left of RC and the phase

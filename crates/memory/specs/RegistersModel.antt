@@ -4,7 +4,7 @@ use Rattle.memory.specs.Scratchpads.{Regs}
 use Rattle.memory.specs.declared.registers.Registers.{Registers}
 
 abbrev pub regs_of : Registers → Regs
-regs_of r = record { ta1 = r.ta1; ta2 = r.ta2; e = r.e; pf = r.pf; aa = r.aa; pad = r.pad }
+regs_of r = record { ta1 = r.ta1; ta2 = r.ta2; e = r.e.at; pf = r.pf; aa = r.aa; pad = r.pad }
 
 -- the element at a place, or none at the end
 abbrev pub Nexts : List ℕ → ℕ → Option ℕ → Type 0

@@ -1,6 +1,7 @@
 -- What the memory of the code means.
 use Rattle.std.specs.Prelude.{◌≡◌, List, [], ◌++◌, ℕ, drop}
 use Rattle.base.specs.Bits.{bits_all}
+use Rattle.base.specs.BitQueues.{arrived, queue}
 use Rattle.base.specs.Crc.{crc16, inverted}
 use Rattle.kinds.specs.Kinds.{Rules}
 use Rattle.memory.specs.Scratchpads.{Padded, Regs, on, Doing, idle, programming, taking, sending, alternating, report, await, Awaited, command, load_low, load_high, load_data, copy_low, copy_high, copy_status, read_low, read_high}
@@ -19,7 +20,7 @@ abbrev pub awaited : Await → Awaited
 awaited Command = command
 awaited LoadLow = load_low
 awaited LoadHigh = load_high
-awaited (LoadData offset sum) = load_data offset sum
+awaited (LoadData offset sum) = load_data offset.at sum
 awaited CopyLow = copy_low
 awaited (CopyHigh low) = copy_high low
 awaited (CopyStatus low high) = copy_status low high
@@ -30,10 +31,10 @@ awaited (ReadHigh low) = read_high low
 abbrev pub doing : Regs → List ℕ → Phase → Doing
 doing r m Idle = idle
 doing r m Programming = programming
-doing r m (Taking what bits) = taking (awaited what) bits
-doing r m (SendReport next sum out) = sending (out ++ bits_all (closing sum (drop next (report r))))
-doing r m (SendSum rest) = sending rest
-doing r m (SendMemory next out) = sending (out ++ bits_all (drop next m))
+doing r m (Taking what bits) = taking (awaited what) (arrived bits)
+doing r m (SendReport next sum out) = sending (queue out ++ bits_all (closing sum (drop next (report r))))
+doing r m (SendSum rest) = sending (queue rest)
+doing r m (SendMemory next out) = sending (queue out ++ bits_all (drop next m))
 doing r m SendOnes = sending []
 doing r m (Alternating bit) = alternating bit
 

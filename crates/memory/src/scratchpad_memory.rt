@@ -139,7 +139,7 @@ impl<K: Kind> ScratchpadMemory<K> {
 
     // The data byte at an offset of the target's row.
     fn data_byte(&mut self, offset: Offset, sum: u16, byte: u8)
-        ensures { model K.rules K.bytes self.new ≡ working (model K.rules K.bytes self.old) (take_byte K.rules (K.bytes self.old.kind) (load_data offset sum) byte (regs_of self.old.regs)) }
+        ensures { model K.rules K.bytes self.new ≡ working (model K.rules K.bytes self.old) (take_byte K.rules (K.bytes self.old.kind) (load_data offset.at sum) byte (regs_of self.old.regs)) }
     {
         let at = offset.at();
         let after_data = self.kind.load(self.regs.row() + at as u16, byte);

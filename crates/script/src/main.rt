@@ -7,7 +7,7 @@ use samples::plugs::Plug;
 use samples::tags::tag_of;
 
 // A practice plug on a rig, and the runtime that brings letters and takes answers.
-// A struct, so that `main` lends no rig itself: the toolchain makes no proof of that.
+// A struct, so that the loop runs in a method: where `main` lends a rig of its own, a letter takes a tenth more instructions.
 #[derive(Drop)]
 struct Session<'a> {
     rt: &'a HostRuntime,

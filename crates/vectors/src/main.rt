@@ -1,5 +1,6 @@
 #![tactic(auto)]
 
+mod copies;
 mod examples;
 mod streams;
 mod table;
